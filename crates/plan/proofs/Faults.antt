@@ -1,12 +1,12 @@
 -- The refusals of plan words and of step sets, case by case: each law is one return of the code that looks for them. Assumes nothing.
-use Rattle.std.proofs.Common.{◌≡◌, refl, sym, ap, ◌∙◌, Bool, true, false, cond, not, ◌&&◌, List, [], ◌∷◌, ℕ, zero, suc, ◌+◌, ◌-◌, ◌≤◌, ◌<◌, add-one, arith, length, get_or, drop, drop_of_length-le, drop-cons, eqb, ltb, lt-ltb, le-ltb, eq-eqb, ne_eqb}
+use Rattle.std.proofs.Common.{◌≡◌, sym, ap, ◌∙◌, Bool, true, false, not, ◌&&◌, List, [], ◌∷◌, ℕ, suc, ◌+◌, ◌-◌, ◌≤◌, ◌<◌, add-one, arith, length, get_or, drop, drop_of_length-le, drop-cons, ltb, lt-ltb, le-ltb, eq-eqb, ne_eqb}
 use borrow.Author.Tests.{not-true, not-false}
 use Rattle.sets.specs.Test.{both, less, under, up_to, least}
 use Rattle.sets.specs.Word.{has, kept}
 use Rattle.sets.proofs.Least.{least_same}
 use Rattle.sets.proofs.Words.{kept_at}
 use Rattle.plan.specs.declared.Reply.{Reply}
-use Rattle.plan.specs.Refusal.{fine, refusal, first_of, length_fault}
+use Rattle.plan.specs.Refusal.{fine, refusal, first_of}
 use Rattle.plan.specs.Layout.{facts_of, steps_of, step_word}
 use Rattle.plan.specs.Words.{well_shaped, shape_fault, set_fault, meet_fault, step_checks, steps_fault, plan_fault}
 use Rattle.plan.specs.StepSets.{step_set_fault, step_sets_from, step_sets_fault, rows_fault, order_fault}

@@ -16,23 +16,23 @@ use Rattle.plan.specs.LinkEndings.{link_refused, LinksEnding, miscounted, outsid
 use Rattle.plan.proofs.Needs.{needs_length}
 
 -- the first link with a producer above n, or the number of links
-abbrev pub first_above_lem : ℕ → List ℕ → ℕ
-first_above_lem n links = least (λ k. ltb n (get_or links k 0)) (length links)
+abbrev pub first_above : ℕ → List ℕ → ℕ
+first_above n links = least (λ k. ltb n (get_or links k 0)) (length links)
 
 -- the first refusal of producers is a search for the first above n
 pub producers_search : (n : ℕ) (needs : List Need) (links : List ℕ) → length needs ≡ length links
-    → producers_fault n needs links ≡ cond (ltb (first_above_lem n links) (length links)) (link_refused needs links (first_above_lem n links)) fine
+    → producers_fault n needs links ≡ cond (ltb (first_above n links) (length links)) (link_refused needs links (first_above n links)) fine
 unfolding producers_fault least
 producers_search n [] [] e = refl
 producers_search n [] (producer ∷ links) e = absurd (omega arith)
 producers_search n (need ∷ needs) [] e = absurd (omega arith)
 producers_search n (need ∷ needs) (producer ∷ links) e = go (dec_lt n producer) (producers_search n needs links (suc_inj e))
   where
-    go : Dec (n < producer) → producers_fault n needs links ≡ cond (ltb (first_above_lem n links) (length links)) (link_refused needs links (first_above_lem n links)) fine
+    go : Dec (n < producer) → producers_fault n needs links ≡ cond (ltb (first_above n links) (length links)) (link_refused needs links (first_above n links)) fine
         → producers_fault n (need ∷ needs) (producer ∷ links)
-        ≡ cond (ltb (first_above_lem n (producer ∷ links)) (length (producer ∷ links))) (link_refused (need ∷ needs) (producer ∷ links) (first_above_lem n (producer ∷ links))) fine
+        ≡ cond (ltb (first_above n (producer ∷ links)) (length (producer ∷ links))) (link_refused (need ∷ needs) (producer ∷ links) (first_above n (producer ∷ links))) fine
     go (yes h) r = rw (lt-leb producer n h, lt-ltb n producer h, lt-ltb 0 (suc (length links)) (omega arith)) refl
-    go (no h) r = rw (le-leb producer n (omega arith), le-ltb n producer (omega arith), leb-suc-suc (suc (first_above_lem n links)) (length links)) r
+    go (no h) r = rw (le-leb producer n (omega arith), le-ltb n producer (omega arith), leb-suc-suc (suc (first_above n links)) (length links)) r
 
 module _ (words links : List ℕ) where
   -- another number of links than of needs is refused
@@ -42,30 +42,30 @@ module _ (words links : List ℕ) where
 
   -- with the right number it is as the search for a producer above n says
   links_counted : length links ≡ need_count words
-      → links_fault words links ≡ cond (ltb (first_above_lem (steps_of words) links) (length links)) (link_refused (need_list words) links (first_above_lem (steps_of words) links)) fine
+      → links_fault words links ≡ cond (ltb (first_above (steps_of words) links) (length links)) (link_refused (need_list words) links (first_above (steps_of words) links)) fine
   unfolding links_fault
   links_counted e = rw (eq-eqb (length links) (need_count words) e) (producers_search (steps_of words) (need_list words) links (needs_length words ∙ sym e))
 
   -- where there is a first producer above n, it is refused
-  links_outside : length links ≡ need_count words → first_above_lem (steps_of words) links < length links
-      → links_fault words links ≡ link_refused (need_list words) links (first_above_lem (steps_of words) links)
-  links_outside e h = rw (links_counted e, lt-ltb (first_above_lem (steps_of words) links) (length links) h) refl
+  links_outside : length links ≡ need_count words → first_above (steps_of words) links < length links
+      → links_fault words links ≡ link_refused (need_list words) links (first_above (steps_of words) links)
+  links_outside e h = rw (links_counted e, lt-ltb (first_above (steps_of words) links) (length links) h) refl
 
   -- where there is none, nothing is
-  links_inside : length links ≡ need_count words → length links ≤ first_above_lem (steps_of words) links → links_fault words links ≡ fine
-  links_inside e h = rw (links_counted e, le-ltb (first_above_lem (steps_of words) links) (length links) h) refl
+  links_inside : length links ≡ need_count words → length links ≤ first_above (steps_of words) links → links_fault words links ≡ fine
+  links_inside e h = rw (links_counted e, le-ltb (first_above (steps_of words) links) (length links) h) refl
 
   -- the refusal of links has one of the endings
   pub links_ending : LinksEnding words links (links_fault words links)
-  links_ending = go (ℕ_discrete (length links) (need_count words)) (dec_lt (first_above_lem (steps_of words) links) (length links))
+  links_ending = go (ℕ_discrete (length links) (need_count words)) (dec_lt (first_above (steps_of words) links) (length links))
     where
       above : ℕ → Bool
       above k = ltb (steps_of words) (get_or links k 0)
 
-      go : Dec (length links ≡ need_count words) → Dec (first_above_lem (steps_of words) links < length links) → LinksEnding words links (links_fault words links)
+      go : Dec (length links ≡ need_count words) → Dec (first_above (steps_of words) links < length links) → LinksEnding words links (links_fault words links)
       go (no ne) d = rw (links_miscounted ne) (miscounted ne)
       go (yes e) (yes h) =
-          let k = first_above_lem (steps_of words) links in
+          let k = first_above (steps_of words) links in
           rw (links_outside e h)
           (outside e k h (ltb-true (steps_of words) (get_or links k 0) (least_at above (length links) h)) (λ j l. ltb-false (steps_of words) (get_or links j 0) (least_below above (length links) j l)))
       go (yes e) (no h) =
@@ -76,11 +76,11 @@ module _ (words links : List ℕ) where
   pub ending_links : {r : Reply} → LinksEnding words links r → r ≡ links_fault words links
   ending_links (miscounted ne) = sym (links_miscounted ne)
   ending_links (outside e k h a b) =
-      let q : first_above_lem (steps_of words) links ≡ k
+      let q : first_above (steps_of words) links ≡ k
       = least_found (λ k. ltb (steps_of words) (get_or links k 0)) (length links) k h (λ j l. le-ltb (steps_of words) (get_or links j 0) (b j l)) (lt-ltb (steps_of words) (get_or links k 0) a) in
       sym (links_outside e (rw q h) ∙ ap (link_refused (need_list words) links) q)
   ending_links (fine_links e f) =
-      let q : first_above_lem (steps_of words) links ≡ length links
+      let q : first_above (steps_of words) links ≡ length links
       = least_none (λ k. ltb (steps_of words) (get_or links k 0)) (length links) (λ k l. le-ltb (steps_of words) (get_or links k 0) (f k l)) in
       sym (links_inside e (omega arith))
 
@@ -89,15 +89,15 @@ module _ (words links : List ℕ) where
   return_miscounted m r e ne q = q ∙ sym (links_miscounted (λ z. ne (z ∙ sym e)))
 
   -- the return for a producer above n: n is the number of steps, k what the search found
-  pub return_outside : (m n k : ℕ) (need : Need) (r : Reply) → m ≡ need_count words → length links ≡ m → n ≡ steps_of words → k ≡ first_above_lem n links
+  pub return_outside : (m n k : ℕ) (need : Need) (r : Reply) → m ≡ need_count words → length links ≡ m → n ≡ steps_of words → k ≡ first_above n links
       → k < length links → need ≡ get_or (need_list words) k (need_for 0 0) → r ≡ refusal 5 need.consumer need.fact (get_or links k 0) → r ≡ links_fault words links
   return_outside m n k need r e l s f h d q =
-      let g : k ≡ first_above_lem (steps_of words) links = f ∙ ap (λ (n : ℕ). first_above_lem n links) s in
+      let g : k ≡ first_above (steps_of words) links = f ∙ ap (λ (n : ℕ). first_above n links) s in
       q ∙ ap (λ (d : Need). refusal 5 d.consumer d.fact (get_or links k 0)) d ∙ ap (link_refused (need_list words) links) g ∙ sym (links_outside (l ∙ e) (omega arith))
 
   -- the return for links with nothing to refuse
-  pub return_fine : (m n k : ℕ) (r : Reply) → m ≡ need_count words → length links ≡ m → n ≡ steps_of words → k ≡ first_above_lem n links
+  pub return_fine : (m n k : ℕ) (r : Reply) → m ≡ need_count words → length links ≡ m → n ≡ steps_of words → k ≡ first_above n links
       → length links ≤ k → r ≡ fine → r ≡ links_fault words links
   return_fine m n k r e l s f h q =
-      let g : k ≡ first_above_lem (steps_of words) links = f ∙ ap (λ (n : ℕ). first_above_lem n links) s in
+      let g : k ≡ first_above (steps_of words) links = f ∙ ap (λ (n : ℕ). first_above n links) s in
       q ∙ sym (links_inside (l ∙ e) (omega arith))

@@ -1,5 +1,5 @@
 -- The lowest number of a word that a test picks out, or none: what every check of a set comes down to. Assumes nothing.
-use Rattle.std.proofs.Common.{◌≡◌, refl, sym, ap, Bool, true, false, not, ◌&&◌, ◌⊎◌, inl, inr, ℕ, ◌≤◌, ◌<◌, arith}
+use Rattle.std.proofs.Common.{◌≡◌, Bool, true, false, not, ◌⊎◌, inl, inr, ℕ, ◌<◌, arith}
 use native.Mathlib.Decide.{dec_lt}
 use Rattle.sets.specs.Test.{less, least}
 use Rattle.sets.specs.Word.{has}

@@ -1,6 +1,6 @@
 -- Laws of 'the first of these that refuses, else what is done', and of the rule for buffers. Assumes nothing.
-use Rattle.std.proofs.Common.{◌≡◌, refl, sym, ap, ◌∙◌, Bool, true, false, cond, List, [], ◌∷◌, ◌++◌, ℕ, ◌+◌, ◌-◌, ◌≤◌, ◌<◌, arith, length, take, drop, length-append, length-drop, eqb, lt-ltb, le-ltb, eqb-true, eq-eqb, ne_eqb}
-use lib.Seq.{take-append_seam, drop-append_seam}
+use Rattle.std.proofs.Common.{◌≡◌, refl, sym, ap, ◌∙◌, Bool, true, false, cond, List, [], ◌∷◌, ◌++◌, ℕ, ◌≤◌, ◌<◌, arith, length, drop, length-append, length-drop, eqb, lt-ltb, le-ltb, eqb-true, eq-eqb, ne_eqb}
+use lib.Seq.{drop-append_seam}
 use borrow.Author.Tests.{eqb-false}
 use Rattle.plan.specs.declared.Reply.{Reply}
 use Rattle.plan.specs.Refusal.{fine, refusal, first_of, length_fault, room_fault, left, when_done}

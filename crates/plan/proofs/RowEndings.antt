@@ -1,13 +1,13 @@
 -- The check of rows, or of any list of step sets, ends as the table says, both ways round. Assumes nothing.
-use Rattle.std.proofs.Common.{◌≡◌, refl, sym, ap, ◌∙◌, Bool, true, false, List, [], ◌∷◌, ◌⊎◌, inl, inr, ℕ, zero, suc, ◌+◌, ◌≤◌, ◌<◌, not-suc-le-zero, add-zero, arith, length, get_or, lt-ltb, le-ltb}
+use Rattle.std.proofs.Common.{◌≡◌, refl, sym, ap, ◌∙◌, true, false, List, [], ◌∷◌, ◌⊎◌, inl, inr, ℕ, zero, suc, ◌+◌, ◌≤◌, ◌<◌, not-suc-le-zero, add-zero, arith, length, get_or, lt-ltb, le-ltb}
 use native.Mathlib.Decide.{ℕ_discrete, dec_lt}
-use Rattle.sets.specs.Test.{up_to, least}
+use Rattle.sets.specs.Test.{up_to}
 use Rattle.sets.specs.Word.{has}
 use Rattle.sets.proofs.Bools.{none_true, none_false, not_both}
 use Rattle.sets.proofs.Sets.{up_to_in, in_up_to}
 use Rattle.sets.proofs.Words.{has_under}
 use Rattle.plan.specs.declared.Reply.{Reply}
-use Rattle.plan.specs.Refusal.{fine, refusal, first_of, length_fault}
+use Rattle.plan.specs.Refusal.{fine, refusal}
 use Rattle.plan.specs.StepSets.{step_set_fault, step_sets_from, step_sets_fault, rows_fault, order_fault}
 use Rattle.plan.specs.Endings.{OfSteps, LowestOutside, SetsEnding, set_outside, sets_fine, RowsEnding, miscounted, counted, OrderEnding, many, few}
 use Rattle.plan.proofs.Refusals.{length_right, length_wrong}

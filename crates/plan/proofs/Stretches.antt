@@ -1,6 +1,5 @@
 -- The stretch of one consumer, case by case: each law is one return of `links_of`. Assumes nothing.
-use Rattle.std.proofs.Common.{◌≡◌, refl, sym, ap, ap₂, ◌∙◌, Bool, true, false, cond, ◌&&◌, List, [], ℕ, suc, ◌+◌, ◌-◌, ◌≤◌, ◌<◌, add-one, arith, length, take, drop, eqb, eq-eqb, ne_eqb, eqb-true}
-use Rattle.sets.specs.Test.{up_to}
+use Rattle.std.proofs.Common.{◌≡◌, sym, ap, ap₂, ◌∙◌, true, List, [], ℕ, suc, ◌+◌, ◌-◌, ◌≤◌, ◌<◌, arith, length, take, drop, eqb, eq-eqb, eqb-true}
 use Rattle.sets.specs.Word.{count}
 use Rattle.sets.proofs.Bools.{and_left, and_right, and_both, none_true}
 use Rattle.sets.proofs.Sets.{up_to_in, in_up_to}

@@ -1,5 +1,5 @@
 -- The check of plan words ends as the table says, both ways round: the fault is one of the endings, and each ending is the fault. Assumes nothing.
-use Rattle.std.proofs.Common.{◌≡◌, refl, sym, ap, ◌∙◌, Bool, true, false, List, ◌⊎◌, inl, inr, ℕ, zero, suc, ◌+◌, ◌≤◌, ◌<◌, arith, length, get_or, leb, lt-ltb, le-ltb, ltb-false, leb-true, le-leb, eqb-true, eq-eqb}
+use Rattle.std.proofs.Common.{◌≡◌, refl, sym, ◌∙◌, Bool, true, false, List, ◌⊎◌, inl, inr, ℕ, zero, suc, ◌+◌, ◌≤◌, ◌<◌, arith, length, get_or, leb, lt-ltb, le-ltb, ltb-false, leb-true, le-leb, eqb-true, eq-eqb}
 use native.Mathlib.Decide.{ℕ_discrete}
 use Rattle.sets.specs.Test.{both, under, least}
 use Rattle.sets.specs.Word.{has}

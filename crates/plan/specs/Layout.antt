@@ -1,6 +1,6 @@
 -- Where the words of a plan stand, and the plan of the papers that they are read as. Source: 01 'Words, rows and links'.
 -- The start (step 0) and the end (step n + 1) are in their places, so that no definition above has a special case for them.
-use Rattle.std.specs.Prelude.{Bool, List, ℕ, suc, ◌+◌, ◌-◌, ◌*◌, min, ◌==◌, if◌then◌else◌, slice_index}
+use Rattle.std.specs.Prelude.{List, ℕ, suc, ◌+◌, ◌-◌, ◌*◌, min, ◌==◌, if◌then◌else◌, slice_index}
 use Rattle.sets.specs.Test.{up_to}
 use Rattle.sets.specs.Word.{has}
 use Rattle.model.specs.Plan.{Plan}

@@ -1,6 +1,8 @@
 // Plan words, rows, links and sequences: where each stands, what is refused of it, and the links of one consumer.
 // Every public function takes every input.
-ghost use Rattle.std.specs.Prelude.{◌≡◌, Bool, ◌≤◌, ◌+◌, length, ◌==◌, nat_lt, slice_index, slice_index_or};
+#![tactic(auto)]
+
+ghost use Rattle.std.specs.Prelude.{◌≡◌, Bool, ◌≤◌, ◌+◌, length, nat_lt, slice_index, slice_index_or};
 ghost use Rattle.sets.specs.Test.{least};
 ghost use Rattle.plan.specs.Refusal.{fine, refusal, first_of, length_fault, room_fault};
 ghost use Rattle.plan.specs.Layout.{facts_of, steps_of, step_word, needs_of, adds_of, deletes_of};
@@ -85,7 +87,8 @@ pub fn facts_of(plan: &[u64]) -> u64
 
 // n, at most 62.
 pub fn steps_of(plan: &[u64]) -> u64
-    ensures { (result ≡ steps_of plan.now) × (result ≤ 62) }
+    ensures value { result ≡ steps_of plan.now }
+    ensures at_most { result ≤ 62 }
 {
     let n = word_at(plan, 1);
     if n < 62 { n } else { 62 }
@@ -295,7 +298,8 @@ fn needs_below(plan: &[u64], step: u64) -> u64
 
 // The number of needs, and so of links.
 pub fn need_count(plan: &[u64]) -> u64
-    ensures { (result ≡ need_count plan.now) × (result ≤ 4032) }
+    ensures value { result ≡ need_count plan.now }
+    ensures at_most { result ≤ 4032 }
 {
     let n = steps_of(plan);
     needs_below(plan, n + 2)

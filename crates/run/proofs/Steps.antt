@@ -1,8 +1,8 @@
 -- The run step by step: each law is one turn or one return of the code that runs a sequence. Assumes nothing.
-use Rattle.std.proofs.Common.{◌≡◌, refl, sym, ap, ap₂, ◌∙◌, Bool, true, false, not, cond, ◌&&◌, ◌||◌, List, [], ◌∷◌, ℕ, suc, ◌+◌, ◌≤◌, ◌<◌, ◌^◌, add-one, arith, length, get_or, drop, drop_of_length-le, drop-cons, ltb, Fits, w64, lt-ltb, le-ltb, eq-eqb, ne_eqb}
+use Rattle.std.proofs.Common.{◌≡◌, refl, sym, ap, ap₂, ◌∙◌, Bool, true, false, not, List, [], ◌∷◌, ℕ, suc, ◌+◌, ◌≤◌, ◌<◌, add-one, arith, length, get_or, drop, drop_of_length-le, drop-cons, Fits, w64, lt-ltb, le-ltb}
 use borrow.Author.Tests.{not-true, not-false}
 use Rattle.sets.specs.Test.{either, less, least}
-use Rattle.sets.specs.Word.{has, word}
+use Rattle.sets.specs.Word.{has}
 use Rattle.sets.proofs.Words.{word_has}
 use Rattle.model.specs.Plan.{Plan}
 use Rattle.model.specs.Run.{after}

@@ -1,4 +1,6 @@
 // Running a sequence of a plan's steps.
+#![tactic(auto)]
+
 ghost use Rattle.std.specs.Prelude.{◌≡◌};
 ghost use Rattle.plan.specs.Layout.{plan_of};
 ghost use Rattle.run.specs.Call.{lacking, run_from, begun, run_reply};

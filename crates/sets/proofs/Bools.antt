@@ -1,5 +1,5 @@
 -- Laws of tests: what a Bool that is true or false says of its parts. Assumes nothing.
-use Rattle.std.proofs.Common.{◌≡◌, refl, sym, ap, ◌∙◌, Bool, true, false, not, ◌&&◌, ◌||◌, true≢false, ◌⊎◌, inl, inr}
+use Rattle.std.proofs.Common.{◌≡◌, refl, sym, ◌∙◌, Bool, true, false, not, ◌&&◌, ◌||◌, true≢false, ◌⊎◌, inl, inr}
 use mathlib.Core.Bool.{false≢true}
 
 -- a conjunction that holds has a first part that holds

@@ -1,6 +1,6 @@
 -- A list whose front has been replaced: by its image under f (map in place), or by another list's front (copy). One store moves the seam.
 -- Assumes nothing.
-use Rattle.std.proofs.Common.{◌≡◌, refl, sym, ap, ◌∙◌, subst, List, [], ◌∷◌, ◌++◌, map, ℕ, zero, suc, ◌+◌, ◌≤◌, ◌<◌, le_of_suc-le-suc, not-suc-le-zero, le_trans, add-one, length, get_or, set, take, drop}
+use Rattle.std.proofs.Common.{◌≡◌, refl, ap, ◌∙◌, subst, List, [], ◌∷◌, ◌++◌, map, ℕ, zero, suc, ◌+◌, ◌≤◌, ◌<◌, le_of_suc-le-suc, not-suc-le-zero, le_trans, add-one, length, get_or, set, take, drop}
 use lib.Seq.{take-length}
 
 -- map in place: f has been applied to the first i elements

@@ -1,5 +1,5 @@
 -- The least number that passes a test: what it means, and the two ways on of a loop that searches upwards. Assumes nothing.
-use Rattle.std.proofs.Common.{◌≡◌, refl, sym, ap, ◌∙◌, subst, Bool, true, false, cond, ℕ, zero, suc, ◌+◌, ◌≤◌, ◌<◌, zero-le, suc-le-suc, le_of_suc-le-suc, not-suc-le-zero, zero-lt-suc, arith, below_more}
+use Rattle.std.proofs.Common.{◌≡◌, refl, sym, ap, ◌∙◌, Bool, true, false, cond, ℕ, zero, suc, ◌+◌, ◌≤◌, ◌<◌, zero-le, suc-le-suc, le_of_suc-le-suc, not-suc-le-zero, zero-lt-suc, arith, below_more}
 use native.Mathlib.Decide.{dec_lt}
 use Rattle.sets.specs.Test.{least}
 use Rattle.sets.proofs.Bools.{not_both}

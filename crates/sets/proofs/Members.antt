@@ -1,14 +1,12 @@
 -- The members of a set in rising order: the first is the least, the rest are those of the set without it, and each stands at one place.
 -- Assumes nothing.
-use Rattle.std.proofs.Common.{◌≡◌, refl, sym, ap, ◌∙◌, subst, Bool, true, false, cond, true≢false, List, [], ◌∷◌, ◌⊎◌, inl, inr, ℕ, zero, suc, ◌+◌, ◌≤◌, ◌<◌, add-suc, not-suc-le-zero, arith, length, get_or}
+use Rattle.std.proofs.Common.{◌≡◌, refl, sym, ap, ◌∙◌, Bool, true, false, cond, List, ◌∷◌, ℕ, zero, suc, ◌+◌, ◌≤◌, ◌<◌, not-suc-le-zero, arith, length, get_or}
 use native.Mathlib.Decide.{dec_lt, ℕ_discrete}
-use lib.ListN.{get_or-eq_default}
 use Rattle.sets.specs.Test.{remove, least, bit, sum_to, size, members_from}
 use Rattle.sets.specs.Word.{has, count, members}
 use Rattle.sets.proofs.Bools.{not_both, none_true}
-use Rattle.sets.proofs.Sets.{remove_in, remove_ne, in_remove, remove_self}
-use Rattle.sets.proofs.Least.{least_found, least_none, least_at_most, least_le}
-use Rattle.sets.proofs.Words.{has_under}
+use Rattle.sets.proofs.Sets.{remove_in, in_remove, remove_self}
+use Rattle.sets.proofs.Least.{least_found, least_none}
 
 -- the least of the k numbers from i on that is in s, or i + k where none is
 unfoldable low_from : (ℕ → Bool) → ℕ → ℕ → ℕ

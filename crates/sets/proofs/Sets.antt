@@ -1,11 +1,11 @@
 -- Laws of sets as tests: which numbers an operation has, both ways round. Assumes nothing.
-use Rattle.std.proofs.Common.{◌≡◌, refl, sym, ap, ◌∙◌, Bool, true, false, not, ◌&&◌, ◌||◌, true≢false, ◌⊎◌, inl, inr, ℕ, zero, suc, ◌≤◌, ◌<◌, arith, not-suc-le-zero, eqb, ltb, leb, eqb-true, eq-eqb, ne_eqb, ltb-true, lt-ltb, leb-true, le-leb}
+use Rattle.std.proofs.Common.{◌≡◌, refl, sym, ap, ◌∙◌, Bool, true, false, not, ◌&&◌, ◌||◌, true≢false, ◌⊎◌, inl, inr, ℕ, zero, suc, ◌≤◌, ◌<◌, arith, not-suc-le-zero, eqb, leb, eqb-true, eq-eqb, ne_eqb, leb-true, le-leb}
 use mathlib.Core.Path.{fun_ext}
 use mathlib.Core.Bool.{false≢true}
 use native.Mathlib.Decide.{ℕ_discrete}
 use borrow.Author.Tests.{eqb-false}
-use Rattle.sets.specs.Test.{insert, remove, either, both, less, under, up_to, every, any}
-use Rattle.sets.proofs.Bools.{and_left, and_right, and_both, and_fails, or_cases, or_right, not_both, is_not, not_is, same_test}
+use Rattle.sets.specs.Test.{insert, remove, up_to, every, any}
+use Rattle.sets.proofs.Bools.{and_left, and_right, and_both, and_fails, or_cases, or_right, not_both, is_not, same_test}
 
 -- two sets with the same members are equal
 pub same_set : {r q : ℕ → Bool} → ((i : ℕ) → r i ≡ true → q i ≡ true) → ((i : ℕ) → q i ≡ true → r i ≡ true) → r ≡ q

@@ -1,14 +1,14 @@
 -- Words as sets: what each operation on words has, the lowest, the count, and that a word is its set. Assumes nothing.
-use Rattle.std.proofs.Common.{◌≡◌, refl, sym, ap, ap₂, ◌∙◌, Bool, true, false, not, ◌&&◌, ◌||◌, ◌⊎◌, ⊎_elim, ℕ, zero, suc, ◌+◌, ◌-◌, ◌/◌, ◌%◌, ◌^◌, ◌≤◌, ◌<◌, lt_of_le_of_lt, arith, bit_and, bit_or, eqb, ltb, lt-ltb, le-ltb, ltb-true, eq-eqb, eqb-true, ne_eqb}
+use Rattle.std.proofs.Common.{◌≡◌, refl, sym, ap, ◌∙◌, Bool, true, false, not, ◌&&◌, ◌||◌, ◌⊎◌, ⊎_elim, ℕ, ◌+◌, ◌-◌, ◌/◌, ◌%◌, ◌^◌, ◌≤◌, ◌<◌, lt_of_le_of_lt, arith, bit_and, bit_or, eqb, ltb, lt-ltb, le-ltb, ltb-true, eq-eqb, eqb-true, ne_eqb}
 use mathlib.Core.Path.{fun_ext}
 use mathlib.Core.Bool.{and-or_distrib_left, and-false}
 use native.Mathlib.Decide.{dec_lt}
 use lib.Bits.{and_le_l}
 use lib.Pow.{pow-lt}
 use lib.Count.{count_trailing_zeros, ones}
-use Rattle.sets.specs.Test.{insert, remove, either, both, less, under, up_to, least, every, bit, sum_to, size}
+use Rattle.sets.specs.Test.{insert, remove, either, both, less, under, up_to, least, every, bit, size}
 use Rattle.sets.specs.Word.{has, kept, digits_of, word, count}
-use Rattle.sets.proofs.Bools.{and_left, and_right, and_both, same_test, or_cases, not_is, bool_cases, none_false, not_both}
+use Rattle.sets.proofs.Bools.{and_left, and_right, and_both, same_test}
 use Rattle.sets.proofs.Sets.{same_set, remove_in, remove_ne, in_remove, up_to_in, in_up_to, every_at, at_every}
 use Rattle.sets.proofs.Least.{least_same}
 use Rattle.sets.proofs.Sums.{sum_same}

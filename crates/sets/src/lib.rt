@@ -1,5 +1,7 @@
 // A 64-bit word as a set of the numbers 0 to 63. Every function takes every input.
-ghost use Rattle.std.specs.Prelude.{◌≡◌, Bool, not, ◌||◌, ◌==◌, slice_index_or};
+#![tactic(auto)]
+
+ghost use Rattle.std.specs.Prelude.{◌≡◌, Bool, not, ◌||◌, slice_index_or};
 ghost use Rattle.sets.specs.Test.{insert, remove, either, both, less, under, up_to, least, every};
 ghost use Rattle.sets.specs.Word.{has, kept, count, members};
 
