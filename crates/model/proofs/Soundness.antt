@@ -1,4 +1,4 @@
--- Soundness: where each need has a good link, every sequence of the order runs. Source: 004 section 2, 001 section 2.1.
+-- Soundness: where each need has a good link, every sequence of the order runs. Source: Siddiqui and Haslum, section 2; Muise, Beck and McIlraith, section 2.1.
 -- Stands on Before. Assumes nothing.
 use Rattle.std.proofs.Common.{◌≡◌, refl, Bool, true, false, not, ◌&&◌, List, ℕ, zero, suc, ◌≤◌, ◌<◌, arith, length, get_or}
 use mathlib.Core.Bool.{or-true}

@@ -1,4 +1,4 @@
--- Before, threats and good links as tests that compute, from the closed pairs C of an order. Source: 01 'The planning rules'.
+-- Before, threats and good links as tests that compute, from the closed pairs C of an order. Source: docs/RULES.md 'The planning rules'.
 -- Stands on Plan and Link; proofs/Check.antt says that each test is what it is named after.
 use Rattle.std.specs.Prelude.{Bool, not, ◌&&◌, ◌||◌, ℕ, suc, ◌==◌, nat_lt, nat_le}
 use Rattle.sets.specs.Test.{least}

@@ -1,4 +1,4 @@
--- The closure of given pairs as a test that computes: which pairs follow from the given ones. Source: 01 'The planning rules'.
+-- The closure of given pairs as a test that computes: which pairs follow from the given ones. Source: docs/RULES.md 'The planning rules'.
 -- Stands on nothing but tests; proofs/Closure.antt says that it is Before between the steps 1 to n.
 use Rattle.std.specs.Prelude.{◌≡◌, refl, Bool, true, false, ◌&&◌, ◌||◌, ℕ, zero, suc, ◌==◌}
 

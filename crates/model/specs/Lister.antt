@@ -1,5 +1,5 @@
 -- Listing sequences: which steps are free to come next, the first sequence, the next one after a given one.
--- Stated over any test `free` on the set of steps that are left; given pairs are one such test. Source: 01 'The planning rules'.
+-- Stated over any test `free` on the set of steps that are left; given pairs are one such test. Source: docs/RULES.md 'The planning rules'.
 use Rattle.std.specs.Prelude.{Bool, not, ◌&&◌, length, List, [], ◌∷◌, ℕ, zero, suc, nat_lt, if◌then◌else◌}
 use Rattle.std.proofs.Math.Option.{Option, none, some}
 use Rattle.sets.specs.Test.{remove, up_to, least, every}

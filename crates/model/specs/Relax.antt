@@ -1,4 +1,4 @@
--- The relaxer: 001 Algorithm 1 over the sequence 1 to n, in the words of 01 'The planning rules'.
+-- The relaxer: Algorithm 1 of Muise, Beck and McIlraith over the sequence 1 to n, in the words of docs/RULES.md 'The planning rules'.
 -- Stands on Plan and Link. A pair that is kept is kept for one of three causes; the pairs of start and end are dropped.
 use Rattle.std.specs.Prelude.{◌≡◌, refl, Bool, true, false, ◌&&◌, ◌||◌, List, [], ◌∷◌, ℕ, zero, suc, ◌-◌, ◌≤◌, ◌<◌, ◌==◌, nat_lt, if◌then◌else◌}
 use Rattle.std.proofs.Math.Option.{Option, none, some, get_or}
@@ -6,7 +6,7 @@ use Rattle.sets.specs.Test.{up_to, any}
 use Rattle.model.specs.Plan.{Plan}
 
 -- the walk back for a fact, at step k, with the producer so far: a step that adds the fact becomes the producer so far,
--- a step that deletes it ends the walk, the start is the last step visited (001 Algorithm 1)
+-- a step that deletes it ends the walk, the start is the last step visited (Algorithm 1)
 unfoldable pub walk_back : Plan → ℕ → ℕ → Option ℕ → Option ℕ
 walk_back P fact zero producer = if P.adds zero fact then some zero else producer
 walk_back P fact (suc k) producer =

@@ -1,4 +1,4 @@
--- A plan whose facts got other numbers. Source: 01 'The planning rules'.
+-- A plan whose facts got other numbers. Source: docs/RULES.md 'The planning rules'.
 -- Stands on Plan; proofs/Renumbering.antt says that the relaxer keeps the same pairs.
 use Rattle.std.specs.Prelude.{◌≡◌, ℕ, ◌<◌}
 use Rattle.model.specs.Plan.{Plan}

@@ -1,4 +1,4 @@
--- Sequences of the steps 1 to n, stated by places counted from 0, and their rising order. Source: 01 'The planning rules' and 'Words, rows and links'.
+-- Sequences of the steps 1 to n, stated by places counted from 0, and their rising order. Source: docs/RULES.md 'The planning rules' and 'Words, rows and links'.
 -- A sequence is a list of step numbers; given pairs are a test R as in Order.
 use Rattle.std.specs.Prelude.{◌≡◌, Bool, true, List, ℕ, ◌≤◌, ◌<◌, length, slice_index}
 

@@ -1,4 +1,4 @@
--- All sequences of an order, one after another: the first, then each time the next, until there is none. Source: 01 'The planning rules'.
+-- All sequences of an order, one after another: the first, then each time the next, until there is none. Source: docs/RULES.md 'The planning rules'.
 -- Stands on Sequence and Lister; proofs/Walk.antt says that a walk has each sequence once, in rising order, and no other.
 use Rattle.std.specs.Prelude.{◌≡◌, refl, Bool, ◌&&◌, List, [], ◌∷◌, ℕ, ◌<◌, length, ◌==◌, slice_index_or}
 use Rattle.std.proofs.Math.Option.{Option, none, some}

@@ -1,4 +1,4 @@
--- What each refusal of plan words and of rows says, row by row of the table in 01 'Replies': a constructor for each ending carries its own fact
+-- What each refusal of plan words and of rows says, row by row of the table in docs/RULES.md 'Replies': a constructor for each ending carries its own fact
 -- and that nothing earlier in the order of checks holds. proofs/WordEndings.antt and RowEndings.antt: the fault is one of these, and each of these is the fault.
 use Rattle.std.specs.Prelude.{◌≡◌, true, false, List, ℕ, suc, ◌≤◌, ◌<◌, length, slice_index}
 use Rattle.sets.specs.Word.{has}

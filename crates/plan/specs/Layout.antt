@@ -1,4 +1,4 @@
--- Where the words of a plan stand, and the plan of the papers that they are read as. Source: 01 'Words, rows and links'.
+-- Where the words of a plan stand, and the plan of the papers that they are read as. Source: docs/RULES.md 'Words, rows and links'.
 -- The start (step 0) and the end (step n + 1) are in their places, so that no definition above has a special case for them.
 use Rattle.std.specs.Prelude.{List, ℕ, suc, ◌+◌, ◌-◌, ◌*◌, min, ◌==◌, if◌then◌else◌, slice_index}
 use Rattle.sets.specs.Test.{up_to}

@@ -1,4 +1,4 @@
--- What each refusal of links says, row by row of the table in 01 'Replies': a constructor for each ending carries its own fact and that nothing
+-- What each refusal of links says, row by row of the table in docs/RULES.md 'Replies': a constructor for each ending carries its own fact and that nothing
 -- earlier in the order of checks holds. proofs/LinkEndings.antt: the fault is one of these, and each of these is the fault.
 use Rattle.std.specs.Prelude.{◌≡◌, List, ℕ, ◌≤◌, ◌<◌, length, slice_index, slice_index_or}
 use Rattle.plan.specs.declared.Reply.{Reply}

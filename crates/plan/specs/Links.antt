@@ -1,4 +1,4 @@
--- The links: one producer byte a need, consumers rising from 1 to n + 1, facts rising within one. Source: 01 'Words, rows and links'.
+-- The links: one producer byte a need, consumers rising from 1 to n + 1, facts rising within one. Source: docs/RULES.md 'Words, rows and links'.
 -- What is refused of them, and the stretch of one consumer. Stands on Refusal, Layout and Words.
 use Rattle.std.specs.Prelude.{Bool, ◌&&◌, List, [], ◌∷◌, ◌++◌, map, ℕ, zero, suc, length, take, drop, ◌==◌, nat_le, if◌then◌else◌}
 use Rattle.sets.specs.Test.{up_to, sum_to}

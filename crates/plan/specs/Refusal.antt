@@ -1,4 +1,4 @@
--- Refusals, 'the first of these that refuses, else what is done', and the one rule for buffers. Source: 01 'Replies'.
+-- Refusals, 'the first of these that refuses, else what is done', and the one rule for buffers. Source: docs/RULES.md 'Replies'.
 -- Every call's reply and every lent buffer is stated with these.
 use Rattle.std.specs.Prelude.{Bool, List, [], ◌∷◌, ◌++◌, ℕ, length, drop, ◌==◌, nat_lt, if◌then◌else◌}
 use Rattle.plan.specs.declared.Reply.{Reply}

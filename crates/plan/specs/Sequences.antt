@@ -1,4 +1,4 @@
--- Sequences as bytes: n of them, one step number each. Source: 01 'Words, rows and links', 'Order of checks'.
+-- Sequences as bytes: n of them, one step number each. Source: docs/RULES.md 'Words, rows and links', 'Order of checks'.
 use Rattle.std.specs.Prelude.{Bool, ◌&&◌, List, [], ◌∷◌, ℕ, suc, ◌+◌, length, ◌==◌, nat_le}
 use Rattle.sets.specs.Test.{bit, every}
 

@@ -1,4 +1,4 @@
--- What is refused of rows, or of any other list of step sets: 5 for a number outside 1 to n. Source: 01 'Replies', 'Order of checks'.
+-- What is refused of rows, or of any other list of step sets: 5 for a number outside 1 to n. Source: docs/RULES.md 'Replies', 'Order of checks'.
 -- Stands on Refusal.
 use Rattle.std.specs.Prelude.{List, [], ◌∷◌, ℕ, suc, length, nat_lt, if◌then◌else◌}
 use Rattle.sets.specs.Test.{less, up_to, least}

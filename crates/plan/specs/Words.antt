@@ -1,4 +1,4 @@
--- What is refused of plan words: 3, then 4 and 6 set by set in word order, 6 after the step's third set. Source: 01 'Replies', 'Order of checks'.
+-- What is refused of plan words: 3, then 4 and 6 set by set in word order, 6 after the step's third set. Source: docs/RULES.md 'Replies', 'Order of checks'.
 -- Stands on Refusal and Layout.
 use Rattle.std.specs.Prelude.{Bool, ◌&&◌, List, [], ◌∷◌, ℕ, zero, suc, length, ◌==◌, nat_lt, nat_le, if◌then◌else◌, slice_index}
 use Rattle.sets.specs.Test.{both, less, under, least}

@@ -1,5 +1,5 @@
 -- What `run` replies: the plan words, the sequence's length, that each step is used once, then the run itself by the STRIPS rule of model.
--- Source: 01 'The planning rules', 'Replies', 'Order of checks'.
+-- Source: docs/RULES.md 'The planning rules', 'Replies', 'Order of checks'.
 use Rattle.std.specs.Prelude.{Bool, false, List, [], ◌∷◌, ℕ, suc, length, nat_lt, if◌then◌else◌}
 use Rattle.sets.specs.Test.{less, least}
 use Rattle.sets.specs.Word.{word}
