@@ -1,2 +1,2 @@
-// The papers' model of plans, orders and sequences. A crate of definitions and theorems: no code, no words, no buffers.
+//! The papers' model of plans, orders and sequences. A crate of definitions and theorems: no code, no words, no buffers.
 #![tactic(auto)]

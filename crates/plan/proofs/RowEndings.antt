@@ -6,7 +6,7 @@ use Rattle.sets.specs.Word.{has}
 use Rattle.sets.proofs.Bools.{none_true, none_false, not_both}
 use Rattle.sets.proofs.Sets.{up_to_in, in_up_to}
 use Rattle.sets.proofs.Words.{has_under}
-use Rattle.plan.specs.declared.Reply.{Reply}
+use Rattle.plan.specs.declared.replies.Reply.{Reply}
 use Rattle.plan.specs.Refusal.{fine, refusal}
 use Rattle.plan.specs.StepSets.{step_set_fault, step_sets_from, step_sets_fault, rows_fault, order_fault}
 use Rattle.plan.specs.Endings.{OfSteps, LowestOutside, SetsEnding, set_outside, sets_fine, RowsEnding, miscounted, counted, OrderEnding, many, few}

@@ -6,7 +6,7 @@ use Rattle.sets.specs.Word.{has}
 use Rattle.sets.proofs.Bools.{and_left, and_right, and_both, none_true, none_false, not_both, bool_cases}
 use Rattle.sets.proofs.Least.{least_found, least_none}
 use Rattle.sets.proofs.Words.{has_under}
-use Rattle.plan.specs.declared.Reply.{Reply}
+use Rattle.plan.specs.declared.replies.Reply.{Reply}
 use Rattle.plan.specs.Refusal.{fine, refusal, first_of}
 use Rattle.plan.specs.Layout.{facts_of, steps_of, words_for, step_word}
 use Rattle.plan.specs.Words.{well_shaped, shape_fault, set_fault, meet_fault, step_checks, steps_fault, plan_fault}

@@ -2,7 +2,7 @@
 -- and that nothing earlier in the order of checks holds. proofs/WordEndings.antt and RowEndings.antt: the fault is one of these, and each of these is the fault.
 use Rattle.std.specs.Prelude.{◌≡◌, true, false, List, ℕ, suc, ◌≤◌, ◌<◌, length, slice_index}
 use Rattle.sets.specs.Word.{has}
-use Rattle.plan.specs.declared.Reply.{Reply}
+use Rattle.plan.specs.declared.replies.Reply.{Reply}
 use Rattle.plan.specs.Refusal.{fine, refusal}
 use Rattle.plan.specs.Layout.{facts_of, steps_of, words_for, step_word}
 

@@ -1,7 +1,10 @@
 -- Refusals, 'the first of these that refuses, else what is done', and the one rule for buffers. Source: docs/RULES.md 'Replies'.
 -- Every call's reply and every lent buffer is stated with these.
-use Rattle.std.specs.Prelude.{Bool, List, [], ◌∷◌, ◌++◌, ℕ, length, drop, ◌==◌, nat_lt, if◌then◌else◌}
-use Rattle.plan.specs.declared.Reply.{Reply}
+use Rattle.std.specs.Prelude.{Bool, List, [], ◌∷◌, ◌++◌, ℕ, length, drop, ◌==◌, nat_lt, if◌then◌else◌, Result, Ok, Err}
+use Rattle.sets.specs.Word.{has, word}
+use Rattle.plan.specs.declared.replies.Reply.{Reply}
+use Rattle.plan.specs.declared.replies.Refusal.{Refusal}
+use Rattle.plan.specs.declared.replies.Refusal.TheVariants.{WrongLength, FactOutside, StepOutside, SetsMeet, ShortOutput, NeedUnmet, NotOnceEach}
 
 -- nothing to refuse: every number is 0
 abbrev pub fine : Reply
@@ -10,6 +13,29 @@ fine = record { code = 0; step = 0; fact = 0; other = 0; at = 0 }
 -- a refusal of a call other than the reader: a field that its row of the table does not name is 0
 abbrev pub refusal : ℕ → ℕ → ℕ → ℕ → Reply
 refusal code step fact other = record { code = code; step = step; fact = fact; other = other; at = 0 }
+
+-- the number and the fields of each refusal: its row of the table
+abbrev pub told : Refusal → Reply
+told WrongLength = refusal 3 0 0 0
+told (FactOutside step fact) = refusal 4 step fact 0
+told (StepOutside step fact other) = refusal 5 step fact other
+told (SetsMeet step fact) = refusal 6 step fact 0
+told (ShortOutput needed) = refusal 8 0 0 needed
+told (NeedUnmet step fact) = refusal 9 step fact 0
+told NotOnceEach = refusal 15 0 0 0
+
+-- done, with a set of facts: its word
+abbrev pub holding : ℕ → Reply
+holding set = record { code = 0; step = 0; fact = 0; other = word (has set); at = 0 }
+
+-- the reply of a call: what is said where it is done, or the refusal
+abbrev pub reply_of : {T : Type 0} → (T → Reply) → Result T Refusal → Reply
+reply_of done (Ok x) = done x
+reply_of done (Err refusal) = told refusal
+
+-- the reply to a check, which says nothing where it refuses nothing
+abbrev pub checked : Result Unit Refusal → Reply
+checked outcome = reply_of (λ _. fine) outcome
 
 -- the first of these that refuses, else what is done; a check that refuses nothing has code 0
 unfoldable pub first_of : List Reply → Reply → Reply

@@ -3,7 +3,7 @@
 use Rattle.std.specs.Prelude.{List, [], ◌∷◌, ℕ, suc, length, nat_lt, if◌then◌else◌}
 use Rattle.sets.specs.Test.{less, up_to, least}
 use Rattle.sets.specs.Word.{has}
-use Rattle.plan.specs.declared.Reply.{Reply}
+use Rattle.plan.specs.declared.replies.Reply.{Reply}
 use Rattle.plan.specs.Refusal.{fine, refusal, first_of, length_fault}
 
 -- 5 where a set of steps has a number outside 1 to n: its place in the list and the lowest such number

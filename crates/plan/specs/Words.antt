@@ -3,7 +3,7 @@
 use Rattle.std.specs.Prelude.{Bool, ◌&&◌, List, [], ◌∷◌, ℕ, zero, suc, length, ◌==◌, nat_lt, nat_le, if◌then◌else◌, slice_index}
 use Rattle.sets.specs.Test.{both, less, under, least}
 use Rattle.sets.specs.Word.{has}
-use Rattle.plan.specs.declared.Reply.{Reply}
+use Rattle.plan.specs.declared.replies.Reply.{Reply}
 use Rattle.plan.specs.Refusal.{fine, refusal, first_of}
 use Rattle.plan.specs.Layout.{facts_of, steps_of, words_for, step_word}
 

@@ -1,342 +1,294 @@
-// Plan words, rows, links and sequences: where each stands, what is refused of it, and the links of one consumer.
-// Every public function takes every input.
+//! Plan words, rows, links and sequences: where each stands, what is refused of it, and the links of one consumer.
+//! Every public function takes every input.
 #![tactic(auto)]
 
-ghost use Rattle.std.specs.Prelude.{◌≡◌, Bool, ◌≤◌, ◌+◌, length, nat_lt, slice_index, slice_index_or};
-ghost use Rattle.sets.specs.Test.{least};
-ghost use Rattle.plan.specs.Refusal.{fine, refusal, first_of, length_fault, room_fault};
+ghost use Rattle.std.specs.Prelude.{◌≡◌, Bool, ◌≤◌, ◌+◌, length, nat_lt, slice_index, slice_index_or, position};
+ghost use Rattle.plan.specs.Refusal.{fine, first_of, checked, length_fault, room_fault};
 ghost use Rattle.plan.specs.Layout.{facts_of, steps_of, step_word, needs_of, adds_of, deletes_of};
 ghost use Rattle.plan.specs.Words.{well_shaped, shape_fault, set_fault, meet_fault, step_checks, steps_fault, plan_fault};
 ghost use Rattle.plan.specs.StepSets.{step_set_fault, step_sets_fault, rows_fault, order_fault};
-ghost use Rattle.plan.specs.Links.{need_for, need_list, needs_below, need_count, links_fault, stretch_of};
+ghost use Rattle.plan.specs.Links.{need_for, need_list, needs_below, need_count, links_fault, has_stretch, stretch_of};
 ghost use Rattle.plan.specs.Sequences.{uses_each_once};
 
-// The answer of every call: a code, and where it is about.
-#[repr(C)]
-#[derive(Drop)]
-pub struct Reply {
-    pub code: u64,
-    pub step: u64,
-    pub fact: u64,
-    pub other: u64,
-    pub at: u64,
-}
+use sets::Set;
 
-// A fact that a consumer needs.
-#[derive(Drop)]
+// Plan words, rows, links and sequences stay the slices that are lent, found by their places: the C interface. No fact stands in the clauses of three
+// functions over them, since each function takes any words; a struct round a slice would hold none, and a clause would say `plan.words` for `plan`.
+
+mod replies;
+
+pub use replies::{Done, Refusal, Reply, accept, refuse};
+
+/// A fact that a consumer needs.
+#[derive(Clone, Copy, Debug, PartialEq, Eq, Hash)]
 pub struct Need {
     pub consumer: u64,
     pub fact: u64,
 }
 
-// Nothing to refuse.
-pub fn accept() -> Reply
-    ensures { result ≡ fine }
-{
-    refuse(0, 0, 0, 0)
+/// The three sets of a step.
+#[derive(Clone, Copy, Debug, Default, PartialEq, Eq, Hash)]
+struct Step {
+    needs: Set,
+    adds: Set,
+    deletes: Set,
 }
 
-// A refusal of a call other than the reader.
-pub fn refuse(code: u64, step: u64, fact: u64, other: u64) -> Reply
-    ensures { result ≡ refusal code step fact other }
-{
-    Reply {
-        code,
-        step,
-        fact,
-        other,
-        at: 0,
-    }
-}
-
-// 3 where a length is not the one wanted.
-pub fn length_fault(wanted: u64, sent: u64) -> Reply
-    ensures { result ≡ length_fault wanted sent }
+/// 3 where a length is not the one wanted.
+#[tactic(auto, unfolding(crate::specs::Refusal::length_fault))]
+pub fn length_fault(wanted: u64, sent: u64) -> Result<(), Refusal>
+    ensures { checked result ≡ length_fault wanted sent }
 {
     if sent == wanted {
-        accept()
+        Ok(())
     } else {
-        refuse(3, 0, 0, 0)
+        Err(Refusal::WrongLength)
     }
 }
 
-// 8 where an output buffer is shorter than what is to be written into it.
-pub fn room_fault(needed: u64, room: u64) -> Reply
-    ensures { result ≡ room_fault needed room }
+/// 8 where an output buffer is shorter than what is to be written into it.
+#[tactic(auto, unfolding(crate::specs::Refusal::room_fault))]
+pub fn room_fault(needed: u64, room: u64) -> Result<(), Refusal>
+    ensures { checked result ≡ room_fault needed room }
 {
     if room < needed {
-        refuse(8, 0, 0, needed)
+        Err(Refusal::ShortOutput { needed })
     } else {
-        accept()
+        Ok(())
     }
 }
 
-// Word i of a plan, 0 past its end.
+/// Word i of a plan, 0 past its end.
 fn word_at(plan: &[u64], i: usize) -> u64
     ensures { result ≡ slice_index plan.now i }
 {
-    if i < plan.len() { plan[i] } else { 0 }
+    plan.get(i).copied().unwrap_or(0)
 }
 
-// F.
+/// F.
+#[tactic(auto, unfolding(crate::specs::Layout::facts_of))]
 pub fn facts_of(plan: &[u64]) -> u64
     ensures { result ≡ facts_of plan.now }
 {
     word_at(plan, 0)
 }
 
-// n, at most 62.
+/// n, at most 62.
+#[tactic(auto, unfolding(crate::specs::Layout::steps_of))]
 pub fn steps_of(plan: &[u64]) -> u64
     ensures value { result ≡ steps_of plan.now }
     ensures at_most { result ≤ 62 }
 {
-    let n = word_at(plan, 1);
-    if n < 62 { n } else { 62 }
+    word_at(plan, 1).min(62)
 }
 
-// Word k of a step; a number that is no step has none.
-fn step_word(plan: &[u64], step: u64, k: usize) -> u64
-    requires { k ≤ 2 }
-    ensures { result ≡ step_word plan.now step k }
+/// The sets of a step; a number that is no step has none.
+#[tactic(auto, unfolding(crate::specs::Layout::step_word, crate::specs::Layout::place_of, sets::specs::Test::up_to))]
+fn step_at(plan: &[u64], step: u64) -> Step
+    ensures needs { result.needs ≡ step_word plan.now step 0 }
+    ensures adds { result.adds ≡ step_word plan.now step 1 }
+    ensures deletes { result.deletes ≡ step_word plan.now step 2 }
 {
-    let n = steps_of(plan);
-    if step < 1 {
-        return 0;
+    if step < 1 || steps_of(plan) < step {
+        return Step::default();
     }
-    if n < step {
-        return 0;
+    let place = 4 + 3 * (step as usize - 1);
+    Step {
+        needs: Set::from(word_at(plan, place)),
+        adds: Set::from(word_at(plan, place + 1)),
+        deletes: Set::from(word_at(plan, place + 2)),
     }
-    word_at(plan, 4 + 3 * (step as usize - 1) + k)
 }
 
-// What a step needs; the end needs the goal.
-pub fn needs_of(plan: &[u64], step: u64) -> u64
+/// What a step needs; the end needs the goal.
+#[tactic(auto, unfolding(crate::specs::Layout::needs_of))]
+pub fn needs_of(plan: &[u64], step: u64) -> Set
     ensures { result ≡ needs_of plan.now step }
 {
-    let n = steps_of(plan);
-    if step == n + 1 {
-        word_at(plan, 3)
+    if step == steps_of(plan) + 1 {
+        Set::from(word_at(plan, 3))
     } else {
-        step_word(plan, step, 0)
+        step_at(plan, step).needs
     }
 }
 
-// What a step adds; the start adds the initial facts.
-pub fn adds_of(plan: &[u64], step: u64) -> u64
+/// What a step adds; the start adds the initial facts.
+#[tactic(auto, unfolding(crate::specs::Layout::adds_of))]
+pub fn adds_of(plan: &[u64], step: u64) -> Set
     ensures { result ≡ adds_of plan.now step }
 {
     if step == 0 {
-        word_at(plan, 2)
+        Set::from(word_at(plan, 2))
     } else {
-        step_word(plan, step, 1)
+        step_at(plan, step).adds
     }
 }
 
-// What a step deletes.
-pub fn deletes_of(plan: &[u64], step: u64) -> u64
+/// What a step deletes.
+#[tactic(auto, unfolding(crate::specs::Layout::deletes_of))]
+pub fn deletes_of(plan: &[u64], step: u64) -> Set
     ensures { result ≡ deletes_of plan.now step }
 {
-    step_word(plan, step, 2)
+    step_at(plan, step).deletes
 }
 
-// Are F, n and the length right?
+/// Are F, n and the length right?
+#[tactic(auto, unfolding(crate::specs::Layout::facts_of, crate::specs::Layout::words_for, crate::specs::Words::well_shaped))]
 fn well_shaped(plan: &[u64]) -> bool
     ensures { result ≡ well_shaped plan.now }
 {
-    if 64 < word_at(plan, 0) {
-        return false;
-    }
     let n = word_at(plan, 1);
-    if 62 < n {
-        return false;
-    }
-    plan.len() as u64 == 4 + 3 * n
+    word_at(plan, 0) <= 64 && n <= 62 && plan.len() as u64 == 4 + 3 * n
 }
 
-// 4 where a set names a fact F or above.
-fn set_fault(facts: u64, step: u64, set: u64) -> Reply
-    ensures { result ≡ set_fault facts step set }
+/// 4 where a set names a fact F or above.
+#[tactic(auto, using(crate::proofs::Faults::sets_looked_at))]
+fn set_fault(facts: u64, step: u64, set: Set) -> Result<(), Refusal>
+    ensures { checked result ≡ set_fault facts step set }
 {
-    let fact = sets::lowest(sets::difference(set, sets::below(facts)));
-    if fact < 64 {
-        refuse(4, step, fact, 0)
-    } else {
-        accept()
+    match set.difference(Set::below(facts)).first() {
+        Some(fact) => Err(Refusal::FactOutside { step, fact }),
+        None => Ok(()),
     }
 }
 
-// 6 where adds and deletes meet.
-fn meet_fault(step: u64, adds: u64, deletes: u64) -> Reply
-    ensures { result ≡ meet_fault step adds deletes }
+/// 6 where adds and deletes meet.
+#[tactic(auto, using(crate::proofs::Faults::sets_looked_at))]
+fn meet_fault(step: u64, adds: Set, deletes: Set) -> Result<(), Refusal>
+    ensures { checked result ≡ meet_fault step adds deletes }
 {
-    let fact = sets::lowest(sets::shared(adds, deletes));
-    if fact < 64 {
-        refuse(6, step, fact, 0)
-    } else {
-        accept()
+    match adds.shared(deletes).first() {
+        Some(fact) => Err(Refusal::SetsMeet { step, fact }),
+        None => Ok(()),
     }
 }
 
-// The first refusal of one step's words.
-fn step_fault(plan: &[u64], step: u64) -> Reply
-    ensures { result ≡ first_of (step_checks plan.now step) fine }
+/// The first refusal of one step's words.
+#[tactic(auto, using(crate::proofs::Refusals::in_turn), unfolding(crate::specs::Words::step_checks, crate::specs::Refusal::first_of))]
+fn step_fault(plan: &[u64], step: u64) -> Result<(), Refusal>
+    ensures { checked result ≡ first_of (step_checks plan.now step) fine }
 {
     let facts = facts_of(plan);
-    let needs_fault = set_fault(facts, step, step_word(plan, step, 0));
-    if needs_fault.code != 0 {
-        return needs_fault;
-    }
-    let adds = step_word(plan, step, 1);
-    let adds_fault = set_fault(facts, step, adds);
-    if adds_fault.code != 0 {
-        return adds_fault;
-    }
-    let deletes = step_word(plan, step, 2);
-    let deletes_fault = set_fault(facts, step, deletes);
-    if deletes_fault.code != 0 {
-        return deletes_fault;
-    }
-    meet_fault(step, adds, deletes)
+    let sets = step_at(plan, step);
+    set_fault(facts, step, sets.needs)?;
+    set_fault(facts, step, sets.adds)?;
+    set_fault(facts, step, sets.deletes)?;
+    meet_fault(step, sets.adds, sets.deletes)
 }
 
-// The first refusal of the steps' words.
-fn steps_fault(plan: &[u64]) -> Reply
-    ensures { result ≡ steps_fault plan.now 1 (steps_of plan.now) }
+/// The first refusal of the steps' words.
+fn steps_fault(plan: &[u64]) -> Result<(), Refusal>
+    ensures { checked result ≡ steps_fault plan.now 1 (steps_of plan.now) }
 {
-    let n = steps_of(plan);
-    let mut step: u64 = 1;
-    while step <= n {
-        let fault = step_fault(plan, step);
-        if fault.code != 0 {
-            return fault;
-        }
-        step += 1;
+    for step in 1..=steps_of(plan) {
+        step_fault(plan, step)?;
     }
-    accept()
+    Ok(())
 }
 
-// The first refusal of plan words, in word order.
-pub fn plan_fault(plan: &[u64]) -> Reply
-    ensures { result ≡ plan_fault plan.now }
+/// The first refusal of plan words, in word order.
+#[tactic(auto, using(crate::proofs::Refusals::in_turn, crate::proofs::Faults::shapes), unfolding(crate::specs::Words::plan_fault))]
+pub fn plan_fault(plan: &[u64]) -> Result<(), Refusal>
+    ensures { checked result ≡ plan_fault plan.now }
 {
     if !well_shaped(plan) {
-        return refuse(3, 0, 0, 0);
+        return Err(Refusal::WrongLength);
     }
     let facts = facts_of(plan);
-    let initial_fault = set_fault(facts, 0, word_at(plan, 2));
-    if initial_fault.code != 0 {
-        return initial_fault;
-    }
     let end = steps_of(plan) + 1;
-    let goal_fault = set_fault(facts, end, word_at(plan, 3));
-    if goal_fault.code != 0 {
-        return goal_fault;
-    }
+    set_fault(facts, 0, Set::from(word_at(plan, 2)))?;
+    set_fault(facts, end, Set::from(word_at(plan, 3)))?;
     steps_fault(plan)
 }
 
-// 5 where a set of steps has a number outside 1 to n.
-fn step_set_fault(n: u64, place: u64, set: u64) -> Reply
-    ensures { result ≡ step_set_fault n place set }
+/// 5 where a set of steps has a number outside 1 to n.
+#[tactic(auto, using(crate::proofs::Faults::sets_looked_at))]
+fn step_set_fault(n: u64, place: u64, set: Set) -> Result<(), Refusal>
+    ensures { checked result ≡ step_set_fault n place set }
 {
-    let bad = sets::lowest(sets::difference(set, sets::steps(n)));
-    if bad < 64 {
-        refuse(5, place, 0, bad)
-    } else {
-        accept()
+    match set.difference(Set::steps(n)).first() {
+        Some(other) => Err(Refusal::StepOutside {
+            step: place,
+            fact: 0,
+            other,
+        }),
+        None => Ok(()),
     }
 }
 
-// The first refusal of rows, or of any other list of step sets.
-pub fn step_sets_fault(n: u64, sets: &[u64]) -> Reply
-    ensures { result ≡ step_sets_fault n sets.now }
+/// The first refusal of rows, or of any other list of step sets.
+pub fn step_sets_fault(n: u64, sets: &[u64]) -> Result<(), Refusal>
+    ensures { checked result ≡ step_sets_fault n sets.now }
 {
-    let mut i: usize = 0;
-    while i < sets.len() {
-        let fault = step_set_fault(n, i as u64 + 1, sets[i]);
-        if fault.code != 0 {
-            return fault;
-        }
-        i += 1;
+    for (i, set) in sets.iter().enumerate() {
+        step_set_fault(n, i as u64 + 1, Set::from(*set))?;
     }
-    accept()
+    Ok(())
 }
 
-// The first refusal of the rows of n steps.
-pub fn rows_fault(n: u64, rows: &[u64]) -> Reply
-    ensures { result ≡ rows_fault n rows.now }
+/// The first refusal of the rows of n steps.
+#[tactic(auto, using(crate::proofs::Refusals::in_turn), unfolding(crate::specs::StepSets::rows_fault))]
+pub fn rows_fault(n: u64, rows: &[u64]) -> Result<(), Refusal>
+    ensures { checked result ≡ rows_fault n rows.now }
 {
-    if rows.len() as u64 != n {
-        return refuse(3, 0, 0, 0);
-    }
+    length_fault(n, rows.len() as u64)?;
     step_sets_fault(n, rows)
 }
 
-// The first refusal of rows that come without a plan.
-pub fn order_fault(rows: &[u64]) -> Reply
-    ensures { result ≡ order_fault rows.now }
+/// The first refusal of rows that come without a plan.
+#[tactic(auto, using(crate::proofs::Refusals::in_turn), unfolding(crate::specs::StepSets::order_fault))]
+pub fn order_fault(rows: &[u64]) -> Result<(), Refusal>
+    ensures { checked result ≡ order_fault rows.now }
 {
     if rows.len() > 62 {
-        return refuse(3, 0, 0, 0);
+        return Err(Refusal::WrongLength);
     }
     step_sets_fault(rows.len() as u64, rows)
 }
 
-// How many needs the steps below a step have.
+/// How many needs the steps below a step have.
 fn needs_below(plan: &[u64], step: u64) -> u64
     requires { step ≤ 64 }
     ensures { result ≡ needs_below plan.now step }
 {
-    let mut sum: u64 = 0;
-    let mut i: u64 = 0;
-    while i < step {
-        sum += sets::count(needs_of(plan, i));
-        i += 1;
+    let mut sum = 0;
+    for i in 0..step {
+        sum += needs_of(plan, i).count();
     }
     sum
 }
 
-// The number of needs, and so of links.
+/// The number of needs, and so of links.
 pub fn need_count(plan: &[u64]) -> u64
     ensures value { result ≡ need_count plan.now }
     ensures at_most { result ≤ 4032 }
 {
-    let n = steps_of(plan);
-    needs_below(plan, n + 2)
+    needs_below(plan, steps_of(plan) + 2)
 }
 
-// The first link with a producer above n, counted from 0; the number of links where there is none.
-fn first_above(n: u64, links: &[u8]) -> usize
-    ensures { result ≡ least (λ k. nat_lt n (slice_index links.now k)) (length links.now) }
+/// The first link with a producer above n, counted from 0.
+fn first_above(n: u64, links: &[u8]) -> Option<usize>
+    ensures { result ≡ position (λ producer. nat_lt n producer) links.now }
 {
-    let mut k: usize = 0;
-    while k < links.len() {
-        if n < links[k] as u64 {
-            return k;
-        }
-        k += 1;
-    }
-    k
+    links.iter().position(|producer| n < u64::from(*producer))
 }
 
-// Need k of a plan, in the order of the links.
+/// Need k of a plan, in the order of the links; the need of consumer 0 for fact 0 where there is none.
+// The 0 stays: what may not change, the clause of this function.
 pub fn need_at(plan: &[u64], k: u64) -> Need
     ensures { result ≡ slice_index_or (need_list plan.now) k (need_for 0 0) }
 {
-    let n = steps_of(plan);
-    let mut consumer: u64 = 1;
     let mut rest = k;
-    while consumer <= n + 1 {
+    for consumer in 1..=steps_of(plan) + 1 {
         let needs = needs_of(plan, consumer);
-        let own = sets::count(needs);
+        let own = needs.count();
         if rest < own {
             return Need {
                 consumer,
-                fact: sets::nth(needs, rest),
+                fact: needs.nth(rest),
             };
         }
         rest -= own;
-        consumer += 1;
     }
     Need {
         consumer: 0,
@@ -344,58 +296,58 @@ pub fn need_at(plan: &[u64], k: u64) -> Need
     }
 }
 
-// The first refusal of the links of a plan.
-pub fn links_fault(plan: &[u64], links: &[u8]) -> Reply
-    ensures { result ≡ links_fault plan.now links.now }
+/// The first refusal of the links of a plan.
+#[tactic(auto, using(crate::proofs::Refusals::in_turn), unfolding(crate::specs::Links::links_fault))]
+pub fn links_fault(plan: &[u64], links: &[u8]) -> Result<(), Refusal>
+    ensures { checked result ≡ links_fault plan.now links.now }
 {
-    if links.len() as u64 != need_count(plan) {
-        return refuse(3, 0, 0, 0);
-    }
-    let k = first_above(steps_of(plan), links);
-    if k < links.len() {
-        let need = need_at(plan, k as u64);
-        return refuse(5, need.consumer, need.fact, links[k] as u64);
-    }
-    accept()
+    length_fault(need_count(plan), links.len() as u64)?;
+    let Some(k) = first_above(steps_of(plan), links) else {
+        return Ok(());
+    };
+    let need = need_at(plan, k as u64);
+    Err(Refusal::StepOutside {
+        step: need.consumer,
+        fact: need.fact,
+        other: u64::from(links[k]),
+    })
 }
 
-// The links of one consumer, as a part of the lent bytes; an empty part for a malformed plan, a wrong link count or no consumer.
+/// Is the plan well formed, is there a link for each need, and is the consumer one of 1 to n + 1?
+fn has_stretch(plan: &[u64], links: &[u8], consumer: u64) -> bool
+    ensures { result ≡ has_stretch plan.now links.now consumer }
+{
+    if plan_fault(plan).is_err() {
+        return false;
+    }
+    if links.len() as u64 != need_count(plan) {
+        return false;
+    }
+    Set::steps(steps_of(plan) + 1).holds(consumer)
+}
+
+/// The links of one consumer, as a part of the lent bytes; an empty part for a malformed plan, a wrong link count or no consumer.
 pub fn links_of<'p, 'a>(plan: &'p [u64], links: &'a [u8], consumer: u64) -> &'a [u8]
     ensures { result.now ≡ stretch_of plan.now links.now consumer }
 {
-    let fault = plan_fault(plan);
-    if fault.code != 0 {
-        return &links[0..0];
-    }
-    if links.len() as u64 != need_count(plan) {
-        return &links[0..0];
-    }
-    if consumer < 1 {
-        return &links[0..0];
-    }
-    if steps_of(plan) + 1 < consumer {
-        return &links[0..0];
+    if !has_stretch(plan, links, consumer) {
+        return &links[..0];
     }
     let start = needs_below(plan, consumer) as usize;
-    let own = sets::count(needs_of(plan, consumer)) as usize;
+    let own = needs_of(plan, consumer).count() as usize;
     &links[start..start + own]
 }
 
-// Does each step of 1 to n stand at exactly one of n places?
+/// Does each step of 1 to n stand at exactly one of n places?
 pub fn uses_each_once(n: u64, sequence: &[u8]) -> bool
     ensures { result ≡ uses_each_once n sequence.now }
 {
-    if 62 < n {
+    if n > 62 || sequence.len() as u64 != n {
         return false;
     }
-    if sequence.len() as u64 != n {
-        return false;
+    let mut seen = Set::default();
+    for step in sequence {
+        seen = seen.with(u64::from(*step));
     }
-    let mut seen: u64 = 0;
-    let mut p: usize = 0;
-    while p < sequence.len() {
-        seen = sets::with(seen, sequence[p] as u64);
-        p += 1;
-    }
-    seen == sets::steps(n)
+    Set::steps(n).within(seen)
 }

@@ -1,12 +1,13 @@
 -- What `run` replies: the plan words, the sequence's length, that each step is used once, then the run itself by the STRIPS rule of model.
 -- Source: docs/RULES.md 'The planning rules', 'Replies', 'Order of checks'.
-use Rattle.std.specs.Prelude.{Bool, false, List, [], ◌∷◌, ℕ, suc, length, nat_lt, if◌then◌else◌}
+use Rattle.std.specs.Prelude.{Bool, false, List, [], ◌∷◌, ℕ, suc, length, nat_lt, if◌then◌else◌, Result}
 use Rattle.sets.specs.Test.{less, least}
 use Rattle.sets.specs.Word.{word}
 use Rattle.model.specs.Plan.{Plan}
 use Rattle.model.specs.Run.{after}
-use Rattle.plan.specs.declared.Reply.{Reply}
-use Rattle.plan.specs.Refusal.{fine, refusal, first_of, length_fault}
+use Rattle.plan.specs.declared.replies.Reply.{Reply}
+use Rattle.plan.specs.declared.replies.Refusal.{Refusal}
+use Rattle.plan.specs.Refusal.{fine, refusal, reply_of, holding, first_of, length_fault}
 use Rattle.plan.specs.Layout.{steps_of, plan_of}
 use Rattle.plan.specs.Words.{plan_fault}
 use Rattle.plan.specs.Sequences.{uses_each_once}
@@ -26,6 +27,10 @@ unmet P i state rest = let fact = lacking P i state in if nat_lt fact 64 then re
 -- done, with the final state
 unfoldable pub ended : (ℕ → Bool) → Reply
 ended state = record { code = 0; step = 0; fact = 0; other = word state; at = 0 }
+
+-- the reply of a run: its final state, or why it is refused
+abbrev pub ran : Result ℕ Refusal → Reply
+ran outcome = reply_of holding outcome
 
 -- the rest of a sequence, run from a state: each step in its turn, then the end, which needs the goal
 unfoldable pub run_from : Plan → List ℕ → (ℕ → Bool) → Reply

@@ -1,64 +1,90 @@
-// Running a sequence of a plan's steps.
+//! Running a sequence of a plan's steps.
 #![tactic(auto)]
 
 ghost use Rattle.std.specs.Prelude.{◌≡◌};
 ghost use Rattle.plan.specs.Layout.{plan_of};
-ghost use Rattle.run.specs.Call.{lacking, run_from, begun, run_reply};
+ghost use Rattle.plan.specs.Refusal.{fine, checked};
+ghost use Rattle.run.specs.Call.{unmet, ran, run_from, begun, run_reply};
 ghost use Rattle.sets.specs.Word.{has};
 ghost use Rattle.model.specs.Run.{after};
 
-// The lowest fact that a step needs and a state lacks, 64 where there is none.
-fn lacks(plan: &[u64], step: u64, state: u64) -> u64
-    ensures { result ≡ lacking (plan_of plan.now) step (has state) }
+use plan::Refusal;
+use sets::Set;
+
+/// 9 where a step needs a fact that the state lacks.
+#[tactic(auto, using(crate::proofs::Steps::looked_at))]
+fn need_fault(plan: &[u64], step: u64, state: Set) -> Result<(), Refusal>
+    ensures { checked result ≡ unmet (plan_of plan.now) step (has state) fine }
 {
-    sets::lowest(sets::difference(plan::needs_of(plan, step), state))
+    match plan::needs_of(plan, step).difference(state).first() {
+        Some(fact) => Err(Refusal::NeedUnmet { step, fact }),
+        None => Ok(()),
+    }
 }
 
-// The state after a step.
-fn after_step(plan: &[u64], step: u64, state: u64) -> u64
+/// The state after a step.
+#[tactic(auto, using(crate::proofs::Steps::after_is))]
+fn after_step(plan: &[u64], step: u64, state: Set) -> Set
     ensures { has result ≡ after (plan_of plan.now) step (has state) }
 {
-    let kept = sets::difference(state, plan::deletes_of(plan, step));
-    sets::union(kept, plan::adds_of(plan, step))
+    let kept = state.difference(plan::deletes_of(plan, step));
+    kept.union(plan::adds_of(plan, step))
 }
 
-// The run of a sequence whose steps are taken as they come: each in its turn, then the goal.
-pub fn run_steps(plan: &[u64], sequence: &[u8]) -> plan::Reply
-    ensures { result ≡ run_from (plan_of plan.now) sequence.now (begun (plan_of plan.now)) }
+/// The run of a sequence whose steps are taken as they come: each in its turn, then the goal.
+pub fn run_steps(plan: &[u64], sequence: &[u8]) -> Result<Set, Refusal>
+    ensures { ran result ≡ run_from (plan_of plan.now) sequence.now (begun (plan_of plan.now)) }
 {
     let mut state = plan::adds_of(plan, 0);
-    let mut p: usize = 0;
-    while p < sequence.len() {
-        let step = sequence[p] as u64;
-        let fact = lacks(plan, step, state);
-        if fact < 64 {
-            return plan::refuse(9, step, fact, 0);
-        }
+    for step in sequence {
+        let step = u64::from(*step);
+        need_fault(plan, step, state)?;
         state = after_step(plan, step, state);
-        p += 1;
     }
-    let end = plan::steps_of(plan) + 1;
-    let fact = lacks(plan, end, state);
-    if fact < 64 {
-        return plan::refuse(9, end, fact, 0);
-    }
-    plan::refuse(0, 0, 0, state)
+    need_fault(plan, plan::steps_of(plan) + 1, state)?;
+    Ok(state)
 }
 
-// Runs a sequence of the steps 1 to n from the initial facts, each step once.
-pub fn run(plan: &[u64], sequence: &[u8]) -> plan::Reply
-    ensures { result ≡ run_reply plan.now sequence.now }
+/// Runs a sequence of the steps 1 to n from the initial facts, each step once: the facts that hold at the end.
+#[tactic(auto, using(plan::proofs::Refusals::in_turn, crate::proofs::Steps::once), unfolding(crate::specs::Call::run_reply))]
+pub fn run(plan: &[u64], sequence: &[u8]) -> Result<Set, Refusal>
+    ensures { ran result ≡ run_reply plan.now sequence.now }
 {
-    let fault = plan::plan_fault(plan);
-    if fault.code != 0 {
-        return fault;
-    }
+    plan::plan_fault(plan)?;
     let n = plan::steps_of(plan);
-    if sequence.len() as u64 != n {
-        return plan::refuse(3, 0, 0, 0);
-    }
+    plan::length_fault(n, sequence.len() as u64)?;
     if !plan::uses_each_once(n, sequence) {
-        return plan::refuse(15, 0, 0, 0);
+        return Err(Refusal::NotOnceEach);
     }
     run_steps(plan, sequence)
+}
+
+#[cfg(test)]
+mod tests {
+    use super::*;
+    use plan::Reply;
+
+    /// Three facts, 0 at the start, 1 and 2 wanted. Step 1 needs 0 and adds 1; step 2 deletes 0 and adds 2.
+    const PLAN: [u64; 10] = [3, 2, 1, 6, 1, 2, 0, 0, 4, 1];
+
+    #[test]
+    fn tells_runs_and_refusals(rt: HostRuntime) {
+        for (sequence, [code, step, fact, other]) in [
+            ([1, 2], [0, 0, 0, 6]),
+            ([2, 1], [9, 1, 0, 0]),
+            ([1, 1], [15, 0, 0, 0]),
+        ] {
+            let reply = Reply::from(run(&PLAN, &sequence));
+            assert_eq!(rt; reply, plan::refuse(code, step, fact, other));
+        }
+    }
+
+    #[test]
+    fn tells_checks(rt: HostRuntime) {
+        assert_eq!(rt; Reply::from(plan::order_fault(&[4, 0])), plan::accept());
+        assert_eq!(rt;
+            Reply::from(plan::order_fault(&[4, 8])),
+            plan::refuse(5, 2, 0, 3)
+        );
+    }
 }

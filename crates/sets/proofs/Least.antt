@@ -1,7 +1,7 @@
 -- The least number that passes a test: what it means, and the two ways on of a loop that searches upwards. Assumes nothing.
-use Rattle.std.proofs.Common.{◌≡◌, refl, sym, ap, ◌∙◌, Bool, true, false, cond, ℕ, zero, suc, ◌+◌, ◌≤◌, ◌<◌, zero-le, suc-le-suc, le_of_suc-le-suc, not-suc-le-zero, zero-lt-suc, arith, below_more}
+use Rattle.std.proofs.Common.{◌≡◌, refl, sym, ap, ◌∙◌, Bool, true, false, cond, ℕ, zero, suc, ◌+◌, ◌≤◌, ◌<◌, zero-le, suc-le-suc, le_of_suc-le-suc, not-suc-le-zero, zero-lt-suc, arith, below_more, lt-ltb, le-ltb, ltb, Option, Some, None, unwrap_or}
 use native.Mathlib.Decide.{dec_lt}
-use Rattle.sets.specs.Test.{least}
+use Rattle.sets.specs.Test.{least, first_passing}
 use Rattle.sets.proofs.Bools.{not_both}
 
 -- a number that passes, with none below it that does, is the least
@@ -83,3 +83,52 @@ least_hit p n i b h f e t = sym (least_found p n i h f (sym e ∙ t))
 
 pub least_more : (p : ℕ → Bool) (i : ℕ) (b : Bool) → ((k : ℕ) → k < i → p k ≡ false) → b ≡ p i → b ≡ false → (k : ℕ) → k < i + 1 → p k ≡ false
 least_more p i b f e t = below_more (λ k. p k ≡ false) i f (sym e ∙ t)
+
+-- the first that passes, where one does, and where none does
+pub passing_some : (p : ℕ → Bool) (n : ℕ) → least p n < n → first_passing p n ≡ Some (least p n)
+unfolding first_passing
+passing_some p n h = rw (lt-ltb (least p n) n h) refl
+
+pub passing_none : (p : ℕ → Bool) (n : ℕ) → least p n ≡ n → first_passing p n ≡ None
+unfolding first_passing
+passing_none p n e = rw (e, le-ltb n n (omega arith)) refl
+
+-- tests that agree below n have the same first
+pub passing_same : (p q : ℕ → Bool) (n : ℕ) → ((k : ℕ) → k < n → p k ≡ q k) → first_passing p n ≡ first_passing q n
+unfolding first_passing
+passing_same p q n f = ap (λ (i : ℕ). cond (ltb i n) (Some i) None) (least_same p q n f)
+
+-- with n for none, it is the least
+pub passing_or : (p : ℕ → Bool) (n : ℕ) → unwrap_or (first_passing p n) n ≡ least p n
+passing_or p n = go (dec_lt (least p n) n)
+  where
+    go : Dec (least p n < n) → unwrap_or (first_passing p n) n ≡ least p n
+    go (yes h) = ap (λ (o : Option ℕ). unwrap_or o n) (passing_some p n h)
+    go (no h) = let e : least p n ≡ n = omega (arith, least_le p n) in ap (λ (o : Option ℕ). unwrap_or o n) (passing_none p n e) ∙ sym e
+
+-- a first that passes is the least, and lies below n
+pub passing_is : (p : ℕ → Bool) (n i : ℕ) → first_passing p n ≡ Some i → (i < n) × (least p n ≡ i)
+passing_is p n i e = go (dec_lt (least p n) n)
+  where
+    is : least p n ≡ i
+    is = sym (passing_or p n) ∙ ap (λ (o : Option ℕ). unwrap_or o n) e
+
+    go : Dec (least p n < n) → (i < n) × (least p n ≡ i)
+    go (yes h) = (omega (arith, is), is)
+    go (no h) =
+        let none : first_passing p n ≡ None = passing_none p n (omega (arith, least_le p n)) in
+        let apart : None ≡ Some i = sym none ∙ e in
+        absurd (cc)
+
+-- where no first passes, the least is n
+pub none_passing : (p : ℕ → Bool) (n : ℕ) → first_passing p n ≡ None → least p n ≡ n
+none_passing p n e = sym (passing_or p n) ∙ ap (λ (o : Option ℕ). unwrap_or o n) e
+
+-- what is chosen by the first that passes, or where none does, is chosen by the least
+pub chosen : {X : Type 0} (p : ℕ → Bool) (n i : ℕ) (found : ℕ → X) (none : X) → Some i ≡ first_passing p n → found i ≡ cond (ltb (least p n) n) (found (least p n)) none
+chosen p n i found none e =
+    let first = passing_is p n i (sym e) in
+    rw (first.1, lt-ltb i n first.0) refl
+
+pub none_chosen : {X : Type 0} (p : ℕ → Bool) (n : ℕ) (found : ℕ → X) (none : X) → None ≡ first_passing p n → none ≡ cond (ltb (least p n) n) (found (least p n)) none
+none_chosen p n found none e = rw (none_passing p n (sym e), le-ltb n n (omega arith)) refl

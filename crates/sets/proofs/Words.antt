@@ -1,5 +1,5 @@
 -- Words as sets: what each operation on words has, the lowest, the count, and that a word is its set. Assumes nothing.
-use Rattle.std.proofs.Common.{◌≡◌, refl, sym, ap, ◌∙◌, Bool, true, false, not, ◌&&◌, ◌||◌, ◌⊎◌, ⊎_elim, ℕ, ◌+◌, ◌-◌, ◌/◌, ◌%◌, ◌^◌, ◌≤◌, ◌<◌, lt_of_le_of_lt, arith, bit_and, bit_or, eqb, ltb, lt-ltb, le-ltb, ltb-true, eq-eqb, eqb-true, ne_eqb}
+use Rattle.std.proofs.Common.{◌≡◌, refl, sym, ap, ◌∙◌, Bool, true, false, not, ◌&&◌, ◌||◌, ◌⊎◌, ⊎_elim, ℕ, ◌+◌, ◌-◌, ◌/◌, ◌%◌, ◌^◌, ◌≤◌, ◌<◌, lt_of_le_of_lt, arith, bit_and, bit_or, eqb, ltb, lt-ltb, le-ltb, ltb-true, eq-eqb, eqb-true, ne_eqb, lit<}
 use mathlib.Core.Path.{fun_ext}
 use mathlib.Core.Bool.{and-or_distrib_left, and-false}
 use native.Mathlib.Decide.{dec_lt}
@@ -8,9 +8,9 @@ use lib.Pow.{pow-lt}
 use lib.Count.{count_trailing_zeros, ones}
 use Rattle.sets.specs.Test.{insert, remove, either, both, less, under, up_to, least, every, bit, size}
 use Rattle.sets.specs.Word.{has, kept, digits_of, word, count}
-use Rattle.sets.proofs.Bools.{and_left, and_right, and_both, same_test}
+use Rattle.sets.proofs.Bools.{and_left, and_right, and_both, none_true, same_test}
 use Rattle.sets.proofs.Sets.{same_set, remove_in, remove_ne, in_remove, up_to_in, in_up_to, every_at, at_every}
-use Rattle.sets.proofs.Least.{least_same}
+use Rattle.sets.proofs.Least.{least_same, least_below, least_none}
 use Rattle.sets.proofs.Sums.{sum_same}
 use Rattle.sets.proofs.Digits.{digit, digit_or, digit_and, digit_not, digit_pow, digit_zero, digit_mask, digit_ext, digits_has, digits_lt, digit_least, digit_count}
 
@@ -162,6 +162,22 @@ same_word a b ha hb e = digit_ext 64 a b ha hb (λ i h. sym (in_word a i h) ∙ 
   where
     in_word : (w i : ℕ) → i < 64 → has w i ≡ digit w i
     in_word w i h = ap (λ (b : Bool). b && digit w i) (lt-ltb i 64 h)
+
+-- a word that is not 0 has a number
+pub has_some : (w : ℕ) → w < 2 ^ 64 → (w ≡ 0 → ⊥) → least (has w) 64 < 64
+has_some w h ne = go (dec_lt (least (has w) 64) 64)
+  where
+    go : Dec (least (has w) 64 < 64) → least (has w) 64 < 64
+    go (yes l) = l
+    go (no l) = absurd (ne (same_word w 0 h (lit< tt) (fun_ext (λ i. absent i (dec_lt i 64) ∙ sym (has_none i)))))
+      where
+        absent : (i : ℕ) → Dec (i < 64) → has w i ≡ false
+        absent i (yes k) = least_below (has w) 64 i (omega arith)
+        absent i (no k) = none_true (has w i) (λ e. let q = has_under w i e in omega arith)
+
+-- the empty word has no number
+pub none_least : least (has 0) 64 ≡ 64
+none_least = least_none (has 0) 64 (λ i h. has_none i)
 
 pub word_lt : (s : ℕ → Bool) → word s < 2 ^ 64
 unfolding word

@@ -1,6 +1,6 @@
 -- A set of numbers is a test: which numbers pass. Its operations, the least number that passes, how many pass, and sums.
 -- Nothing stands below this file.
-use Rattle.std.specs.Prelude.{Bool, true, false, not, ◌&&◌, ◌||◌, List, [], ◌∷◌, ℕ, zero, suc, ◌+◌, ◌==◌, nat_lt, nat_le, if◌then◌else◌}
+use Rattle.std.specs.Prelude.{Bool, true, false, not, ◌&&◌, ◌||◌, List, [], ◌∷◌, ℕ, zero, suc, ◌+◌, ◌==◌, nat_lt, nat_le, if◌then◌else◌, Option, Some, None}
 
 -- s with x in it
 unfoldable pub insert : ℕ → (ℕ → Bool) → ℕ → Bool
@@ -34,6 +34,11 @@ up_to n i = nat_le 1 i && nat_le i n
 unfoldable pub least : (ℕ → Bool) → ℕ → ℕ
 least p zero = zero
 least p (suc n) = let r = least (λ i. p (suc i)) n in if p zero then zero else suc r
+
+-- the least number below n that passes the test, if one does
+unfoldable pub first_passing : (ℕ → Bool) → ℕ → Option ℕ
+unfolding least
+first_passing p n = let i = least p n in if nat_lt i n then Some i else None
 
 -- every number below n passes the test
 unfoldable pub every : (ℕ → Bool) → ℕ → Bool

@@ -1,13 +1,11 @@
--- Another number of links than of needs, a producer above n, or nothing to refuse.
-use Rattle.std.proofs.Common.{rules}
-use Rattle.plan.proofs.LinkEndings.{return_miscounted, return_outside, return_fine}
+-- A producer above n, or nothing to refuse.
+use Rattle.plan.proofs.LinkEndings.{return_outside, return_fine}
 use Rattle.plan.proofs.links_fault.Goals as goal
 
-pub returns-then-links-need_count : goal.returns-then-links-need_count
-returns-then-links-need_count c = search (rules, return_miscounted)
-
-pub returns-then-k-links : goal.returns-then-k-links
-returns-then-k-links c = search (rules, return_outside)
+pub returns-in_default : goal.returns-in_default
+returns-in_default c = return_fine c.args.plan.now c.args.links.now _ _ c.steps_of.ensures.value c.need_count.ensures.value c.in_ok-length_fault.ensures c.in_default.ensures
 
 pub returns : goal.returns
-returns c = search (rules, return_fine)
+returns c =
+    return_outside c.args.plan.now c.args.links.now _ _ c.steps_of.ensures.value c.need_count.ensures.value c.in_ok-length_fault.ensures
+    _ _ _ c.in-Some.ensures c.need_at-need.ensures c.from.ensures

@@ -1,14 +1,9 @@
 -- Need k stands at the place rest of the needs from consumer on.
-use Rattle.std.proofs.Common.{◌-◌, ◌+◌, ◌≡◌, ◌≤◌, slice_index_or}
+use Rattle.std.proofs.Common.{◌≡◌, slice_index_or}
+use Rattle.plan.specs.Layout.{steps_of}
 use Rattle.plan.specs.Links.{need_for, need_list}
 use Rattle.plan.proofs.NeedSteps.{left_at}
 use Rattle.plan.proofs.need_at.Given as goal
 
 abbrev pub invariant-loop-consumer : goal.invariant-loop-consumer
-invariant-loop-consumer l = record {
-  in_range : l.consumer ≤ l.n + 2;
-  same_need : slice_index_or (need_list l.plan) l.k (need_for 0 0) ≡ left_at l.plan l.n l.consumer l.rest;
-}
-
-abbrev pub decreases-loop-consumer : goal.decreases-loop-consumer
-decreases-loop-consumer l = l.n + 2 - l.consumer
+invariant-loop-consumer l = slice_index_or (need_list l.plan) l.k (need_for 0 0) ≡ left_at l.plan (steps_of l.plan) l.consumer l.rest

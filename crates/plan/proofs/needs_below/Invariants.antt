@@ -1,10 +1,7 @@
 -- The sum counts the needs of the steps below i.
-use Rattle.std.proofs.Common.{◌-◌, ◌≡◌, ◌≤◌}
+use Rattle.std.proofs.Common.{◌≡◌}
 use Rattle.plan.specs.Links.{needs_below}
 use Rattle.plan.proofs.needs_below.Given as goal
 
 abbrev pub invariant-loop-i : goal.invariant-loop-i
-invariant-loop-i l = record { in_range : l.i ≤ l.step; counted : l.sum ≡ needs_below l.plan l.i }
-
-abbrev pub decreases-loop-i : goal.decreases-loop-i
-decreases-loop-i l = l.step - l.i
+invariant-loop-i l = l.sum ≡ needs_below l.plan l.i

@@ -1,19 +1,22 @@
 -- The shape, the initial facts, the goal, then the steps.
-use Rattle.std.proofs.Common.{not, ap, rules}
-use Rattle.plan.proofs.Faults.{shape_refused, initial_refused, goal_refused, plan_steps}
+use Rattle.std.proofs.Common.{◌≡◌, ◌∙◌, rules}
+use Rattle.plan.specs.Refusal.{fine}
+use Rattle.plan.specs.Words.{shape_fault}
+use Rattle.plan.proofs.Refusals.{exits, refuses, passes, all_pass}
+use Rattle.plan.proofs.Faults.{shape_fine, plan_in_turn}
 use Rattle.plan.proofs.plan_fault.Goals as goal
 
-pub returns-then-not-well_shaped : goal.returns-then-not-well_shaped
-returns-then-not-well_shaped c = search (rules, shape_refused)
-
-pub returns-then-initial_fault-ne0 : goal.returns-then-initial_fault-ne0
-returns-then-initial_fault-ne0 c = search (rules, initial_refused)
-
-pub returns-then-goal_fault-ne0 : goal.returns-then-goal_fault-ne0
-returns-then-goal_fault-ne0 c = search (rules, goal_refused)
+pub returns-in_err-set_fault-2 : goal.returns-in_err-set_fault-2
+returns-in_err-set_fault-2 c =
+    let words = c.args.plan.now in
+    let shape : fine ≡ shape_fault words = search (rules, shape_fine) in
+    exits _ _ _ _ c.from_residual-in_err-set_fault-2.ensures.1
+    (passes _ _ _ _ shape (passes _ _ _ _ c.in_ok-set_fault.ensures (refuses _ _ _ _ c.in_err-set_fault-2.ensures))
+    ∙ plan_in_turn words _ _ _ _ c.facts_of-facts.ensures c.steps_of-end.ensures.value (c.from.ensures ∙ c.word_at.ensures) (c.from-2.ensures ∙ c.word_at-2.ensures))
 
 pub returns : goal.returns
 returns c =
-    plan_steps _ _ _ _ _ c.well_shaped.ensures (ap not c.if-not-well_shaped.false) c.facts_of-facts.ensures c.word_at.ensures
-    c.set_fault-initial_fault.ensures _ _ _ c.if-initial_fault-ne0.false c.steps_of-end.ensures.value c.word_at-2.ensures c.set_fault-goal_fault.ensures
-    _ c.if-goal_fault-ne0.false c.steps_fault.ensures
+    let words = c.args.plan.now in
+    let shape : fine ≡ shape_fault words = search (rules, shape_fine) in
+    passes _ _ _ _ shape (passes _ _ _ _ c.in_ok-set_fault.ensures (passes _ _ _ _ c.in_ok-set_fault-2.ensures (all_pass _ _ c.steps_fault.ensures)))
+    ∙ plan_in_turn words _ _ _ _ c.facts_of-facts.ensures c.steps_of-end.ensures.value (c.from.ensures ∙ c.word_at.ensures) (c.from-2.ensures ∙ c.word_at-2.ensures)

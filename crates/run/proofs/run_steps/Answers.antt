@@ -1,19 +1,20 @@
 -- A step that cannot run ends the run, one that can leads on to the next; then the end in its turn.
-use Rattle.std.proofs.Common.{rules, arith}
+use Rattle.std.proofs.Common.{rules}
+use Rattle.plan.proofs.Refusals.{exits}
 use Rattle.run.proofs.Steps.{run_begins, turn_stops, turn_goes, end_stops, end_goes}
 use Rattle.run.proofs.run_steps.Goals as goal
 
-pub loop-p-init : goal.loop-p-init
-loop-p-init c = record { in_range = omega arith; state_fits = search rules; same_reply = search (rules, run_begins) }
+pub loop-step-init : goal.loop-step-init
+loop-step-init c = search (rules, run_begins)
 
-pub returns-then-fact-lt64 : goal.returns-then-fact-lt64
-returns-then-fact-lt64 c = search (rules, turn_stops)
+pub returns-in_err-need_fault : goal.returns-in_err-need_fault
+returns-in_err-need_fault c = exits _ _ _ _ c.from_residual.ensures.1 (search (rules, turn_stops))
 
-pub loop-p-preserved : goal.loop-p-preserved
-loop-p-preserved c = record { in_range = omega arith; state_fits = search rules; same_reply = search (rules, turn_goes) }
+pub loop-step-preserved : goal.loop-step-preserved
+loop-step-preserved c = search (rules, turn_goes)
 
-pub returns-then-fact-lt64-2 : goal.returns-then-fact-lt64-2
-returns-then-fact-lt64-2 c = search (rules, end_stops)
+pub returns-in_err-need_fault-2 : goal.returns-in_err-need_fault-2
+returns-in_err-need_fault-2 c = exits _ _ _ _ c.from_residual-in_err-need_fault-2.ensures.1 (search (rules, end_stops))
 
 pub returns : goal.returns
 returns c = search (rules, end_goes)
