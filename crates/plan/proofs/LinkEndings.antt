@@ -1,8 +1,6 @@
 -- What is refused of links: the first producer above n is found by a search, and each of the three endings of `links_fault` says what holds of the links.
 -- Assumes nothing.
-use Rattle.std.proofs.Common.{◌≡◌, refl, sym, ap, ◌∙◌, Some, None, Bool, true, false, not, cond, List, [], ◌∷◌, ℕ, suc, ◌+◌, ◌≤◌, ◌<◌, arith, length, get_or, ltb, eq-eqb, ne_eqb, lt-ltb, le-ltb, le-leb, ltb-true, ltb-false}
-use Rattle.std.specs.Prelude.{position}
-use Rattle.std.specs.List.{position_or_len}
+use Rattle.std.proofs.Common.{◌≡◌, refl, sym, ap, ◌∙◌, Bool, cond, List, [], ◌∷◌, ℕ, suc, ◌≤◌, ◌<◌, arith, length, get_or, ltb, eq-eqb, ne_eqb, lt-ltb, le-ltb, le-leb, ltb-true, ltb-false, Some, None, true, false, not, ◌+◌}
 use native.Mathlib.Nat.{suc_inj}
 use native.Mathlib.Decide.{ℕ_discrete, dec_lt}
 use lib.Dec.{leb-suc-suc}
@@ -10,12 +8,14 @@ use borrow.Author.Tests.{lt-leb}
 use Rattle.sets.specs.Test.{least, first_passing}
 use Rattle.sets.proofs.Least.{least_found, least_none, least_at, least_below, passing_is, none_passing}
 use Rattle.plan.specs.declared.replies.Reply.{Reply}
-use Rattle.plan.specs.declared.Need.{Need}
+use Rattle.plan.specs.declared.words.Need.{Need}
 use Rattle.plan.specs.Refusal.{fine, refusal, length_fault}
 use Rattle.plan.specs.Layout.{steps_of}
 use Rattle.plan.specs.Links.{need_for, need_list, need_count, producers_fault, links_fault}
 use Rattle.plan.specs.LinkEndings.{link_refused, LinksEnding, miscounted, outside, fine_links}
 use Rattle.plan.proofs.Needs.{needs_length}
+use Rattle.std.specs.Prelude.{position}
+use Rattle.std.specs.List.{position_or_len}
 use Rattle.plan.proofs.Refusals.{length_passed}
 
 -- the first link with a producer above n, or the number of links
@@ -87,6 +87,24 @@ module _ (words links : List ℕ) where
       = least_none (λ k. ltb (steps_of words) (get_or links k 0)) (length links) (λ k l. le-ltb (steps_of words) (get_or links k 0) (f k l)) in
       sym (links_inside e (omega arith))
 
+  -- the return for a wrong number of links: m is the number of needs
+  pub return_miscounted : (m : ℕ) (r : Reply) → m ≡ need_count words → (length links ≡ m → ⊥) → r ≡ refusal 3 0 0 0 → r ≡ links_fault words links
+  return_miscounted m r e ne q = q ∙ sym (links_miscounted (λ z. ne (z ∙ sym e)))
+
+  -- the return for a producer above n: n is the number of steps, k what the search found
+  pub return_outside : (m n k : ℕ) (need : Need) (r : Reply) → m ≡ need_count words → length links ≡ m → n ≡ steps_of words → k ≡ first_above n links
+      → k < length links → need ≡ get_or (need_list words) k (need_for 0 0) → r ≡ refusal 5 need.consumer need.fact (get_or links k 0) → r ≡ links_fault words links
+  return_outside m n k need r e l s f h d q =
+      let g : k ≡ first_above (steps_of words) links = f ∙ ap (λ (n : ℕ). first_above n links) s in
+      q ∙ ap (λ (d : Need). refusal 5 d.consumer d.fact (get_or links k 0)) d ∙ ap (link_refused (need_list words) links) g ∙ sym (links_outside (l ∙ e) (omega arith))
+
+  -- the return for links with nothing to refuse
+  pub return_fine : (m n k : ℕ) (r : Reply) → m ≡ need_count words → length links ≡ m → n ≡ steps_of words → k ≡ first_above n links
+      → length links ≤ k → r ≡ fine → r ≡ links_fault words links
+  return_fine m n k r e l s f h q =
+      let g : k ≡ first_above (steps_of words) links = f ∙ ap (λ (n : ℕ). first_above n links) s in
+      q ∙ sym (links_inside (l ∙ e) (omega arith))
+
 -- the first producer above n is what a search through the links finds
 position_above : (n : ℕ) (links : List ℕ) → position (λ producer. ltb n producer) links ≡ first_passing (λ k. ltb n (get_or links k 0)) (length links)
 unfolding least first_passing
@@ -100,22 +118,15 @@ position_above n links = ap (λ (k : ℕ). cond (ltb k (length links)) (Some k) 
     go [] = refl
     go (producer ∷ links) = turn (ltb n producer) _ _ (go links)
 
+-- the two returns of a search that finds a link or none: n is the number of steps, m that of needs
 module _ (words links : List ℕ) (n m : ℕ) (s : n ≡ steps_of words) (c : m ≡ need_count words) (e : fine ≡ length_fault m (length links)) where
-  counted : length links ≡ need_count words
-  counted = length_passed m (length links) e ∙ c
-
-  above : position (λ producer. ltb n producer) links ≡ first_passing (λ k. ltb (steps_of words) (get_or links k 0)) (length links)
-  above = position_above n links ∙ ap (λ (m : ℕ). first_passing (λ k. ltb m (get_or links k 0)) (length links)) s
-
-  -- the return for a producer above n: n is the number of steps, k what the search found
-  pub return_outside : (k producer : ℕ) (need : Need) → Some k ≡ position (λ producer. ltb n producer) links → need ≡ get_or (need_list words) k (need_for 0 0)
+  pub above_told : (k producer : ℕ) (need : Need) → Some k ≡ position (λ producer. ltb n producer) links → need ≡ get_or (need_list words) k (need_for 0 0)
       → producer ≡ get_or links k 0 → refusal 5 need.consumer need.fact producer ≡ links_fault words links
-  return_outside k producer need f d p =
-      let found = passing_is (λ k. ltb (steps_of words) (get_or links k 0)) (length links) k (sym above ∙ sym f) in
-      rw (p) (ap (λ (d : Need). refusal 5 d.consumer d.fact (get_or links k 0)) d ∙ ap (link_refused (need_list words) links) (sym found.1) ∙ sym (links_outside words links counted (omega (arith, found.0, found.1))))
+  above_told k producer need f d p =
+      let found = passing_is (λ k. ltb n (get_or links k 0)) (length links) k (sym (position_above n links) ∙ sym f) in
+      rw p (return_outside words links m n k need _ c (length_passed m (length links) e) s (sym found.1) found.0 d refl)
 
-  -- the return for links with nothing to refuse
-  pub return_fine : None ≡ position (λ producer. ltb n producer) links → fine ≡ links_fault words links
-  return_fine f =
-      let none = none_passing (λ k. ltb (steps_of words) (get_or links k 0)) (length links) (sym above ∙ sym f) in
-      sym (links_inside words links counted (omega (arith, none)))
+  pub none_above : None ≡ position (λ producer. ltb n producer) links → fine ≡ links_fault words links
+  none_above f =
+      let none = none_passing (λ k. ltb n (get_or links k 0)) (length links) (sym (position_above n links) ∙ sym f) in
+      return_fine words links m n (length links) fine c (length_passed m (length links) e) s (sym none) (omega arith) refl

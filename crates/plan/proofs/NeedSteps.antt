@@ -1,7 +1,9 @@
 -- The ways on of the code that counts needs and finds need k: each law is one turn or one return. Assumes nothing.
-use Rattle.std.proofs.Common.{◌≡◌, refl, sym, ap, ◌∙◌, List, ℕ, suc, ◌+◌, ◌-◌, ◌≤◌, ◌<◌, add-one, arith, get_or, w64, Fits}
+use Rattle.std.proofs.Common.{◌≡◌, refl, sym, ap, ◌∙◌, false, List, ℕ, suc, ◌+◌, ◌-◌, ◌≤◌, ◌<◌, add-one, arith, length, get_or, ltb, w64, Fits, below_more, lt-ltb, le-ltb}
+use Rattle.sets.specs.Test.{least}
 use Rattle.sets.specs.Word.{count, members}
-use Rattle.plan.specs.declared.Need.{Need}
+use Rattle.sets.proofs.Least.{least_found, least_none}
+use Rattle.plan.specs.declared.words.Need.{Need}
 use Rattle.plan.specs.Layout.{steps_of, needs_of}
 use Rattle.plan.specs.Links.{need_for, needs_from, need_list, needs_below, need_count}
 use Rattle.plan.proofs.Needs.{below_suc, below_at_most, count_at_most, count_below, need_count_at_most, list_from, from_zero, from_here, from_past}
@@ -71,3 +73,19 @@ module _ (words : List ℕ) where
   pub need_last : (n consumer rest needs own : ℕ) (need : Need) → consumer ≤ n + 1 → n + 1 ≤ consumer → needs ≡ needs_of words consumer → own ≡ count needs → own ≤ rest
       → need ≡ left_at n consumer rest → need_for 0 0 ≡ need
   need_last n consumer rest needs own need h last e q l s = need_none n (consumer + 1) (rest - own) need (omega arith) (need_past n consumer rest needs own need h e q l s)
+
+-- the search for the first producer above n, where none is above before link k
+module _ (n : ℕ) (links : List ℕ) (k : ℕ) (none : (j : ℕ) → j < k → ltb n (get_or links j 0) ≡ false) where
+  -- a producer above n is found
+  pub above_hit : k < length links → n < get_or links k 0 → k ≡ least (λ k. ltb n (get_or links k 0)) (length links)
+  above_hit h l = sym (least_found (λ k. ltb n (get_or links k 0)) (length links) k h none (lt-ltb n (get_or links k 0) l))
+
+  -- a turn: this producer is not above n either
+  pub above_more : get_or links k 0 ≤ n → (j : ℕ) → j < k + 1 → ltb n (get_or links j 0) ≡ false
+  above_more l = below_more (λ j. ltb n (get_or links j 0) ≡ false) k none (le-ltb n (get_or links k 0) l)
+
+  -- at the end there is none
+  pub above_none : k ≤ length links → length links ≤ k → k ≡ least (λ k. ltb n (get_or links k 0)) (length links)
+  above_none a b =
+      let e : k ≡ length links = omega arith in
+      e ∙ sym (least_none (λ k. ltb n (get_or links k 0)) (length links) (λ j l. none j (omega arith)))

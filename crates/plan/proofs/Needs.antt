@@ -8,7 +8,7 @@ use Rattle.sets.specs.Word.{has, count, members}
 use Rattle.sets.proofs.Members.{members_length, from_has, has_from, from_rising}
 use Rattle.sets.proofs.Sums.{sum_head, sum_zero, sum_at_most, size_le}
 use Rattle.sets.proofs.Words.{has_none, has_under}
-use Rattle.plan.specs.declared.Need.{Need}
+use Rattle.plan.specs.declared.words.Need.{Need}
 use Rattle.plan.specs.Layout.{steps_of, needs_of}
 use Rattle.plan.specs.Links.{need_for, needs_from, need_list, needs_below, need_count}
 use Rattle.plan.proofs.Layouts.{low_step, needs_step, steps_at_most}

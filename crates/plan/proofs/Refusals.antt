@@ -1,14 +1,14 @@
 -- Laws of 'the first of these that refuses, else what is done', and of the rule for buffers. Assumes nothing.
-use Rattle.std.proofs.Common.{◌≡◌, refl, sym, ap, ◌∙◌, Bool, true, false, cond, List, [], ◌∷◌, ◌++◌, ℕ, ◌^◌, ◌≤◌, ◌<◌, arith, length, drop, length-append, length-drop, eqb, eq-eqb, ne_eqb, Result, Ok, Err}
+use Rattle.std.proofs.Common.{◌≡◌, refl, sym, ap, ◌∙◌, Bool, true, false, cond, List, [], ◌∷◌, ◌++◌, ℕ, ◌≤◌, ◌<◌, arith, length, drop, length-append, length-drop, eqb, lt-ltb, le-ltb, eqb-true, eq-eqb, ne_eqb, ◌^◌, Result, Ok, Err}
 use lib.Seq.{drop-append_seam}
-use native.Mathlib.Decide.{ℕ_discrete}
 use borrow.Author.Tests.{eqb-false}
+use Rattle.plan.specs.declared.replies.Reply.{Reply}
+use Rattle.plan.specs.Refusal.{fine, refusal, first_of, length_fault, room_fault, left, when_done, told, reply_of, checked, holding}
+use native.Mathlib.Decide.{ℕ_discrete}
 use Rattle.std.specs.Result.{IsErrAnd}
 use Rattle.sets.proofs.Words.{word_has}
-use Rattle.plan.specs.declared.replies.Reply.{Reply}
 use Rattle.plan.specs.declared.replies.Refusal.{Refusal}
 use Rattle.plan.specs.declared.replies.Refusal.TheVariants.{WrongLength, FactOutside, StepOutside, SetsMeet, ShortOutput, NeedUnmet, NotOnceEach}
-use Rattle.plan.specs.Refusal.{fine, refusal, told, reply_of, checked, holding, first_of, length_fault, left, when_done}
 
 -- a refusal says so: its code is not 0
 pub told_refuses : (r : Refusal) → (told r).code ≡ 0 → ⊥
@@ -123,6 +123,23 @@ first_stands (check ∷ checks) rest r e h = go (eqb check.code 0) e (first_stan
     go true z f = f z h
     go false z f = sym z
 
+-- a check that refuses nothing says nothing else either
+abbrev pub Plain : Reply → Type 0
+Plain check = check.code ≡ 0 → check ≡ fine
+
+pub plain_last : (check : Reply) → Plain check → first_of (check ∷ []) fine ≡ check
+unfolding first_of
+plain_last check p = go (eqb check.code 0) refl
+  where
+    go : (b : Bool) → eqb check.code 0 ≡ b → cond b fine check ≡ check
+    go true q = sym (p (eqb-true check.code 0 q))
+    go false q = refl
+
+-- a check that is a refusal or nothing is plain
+pub plain_either : (b : Bool) (r : Reply) → (r.code ≡ 0 → ⊥) → Plain (cond b r fine)
+plain_either true r h z = absurd (h z)
+plain_either false r h z = refl
+
 -- a length: as wanted, or refused
 pub length_right : (wanted sent : ℕ) → sent ≡ wanted → length_fault wanted sent ≡ fine
 unfolding length_fault
@@ -131,6 +148,22 @@ length_right wanted sent h = rw (eq-eqb sent wanted h)
 pub length_wrong : (wanted sent : ℕ) → (sent ≡ wanted → ⊥) → length_fault wanted sent ≡ refusal 3 0 0 0
 unfolding length_fault
 length_wrong wanted sent h = rw (ne_eqb sent wanted h)
+
+-- the two returns of the function that tests a length
+pub length_accepts : (wanted sent : ℕ) (r : Reply) → sent ≡ wanted → r ≡ fine → r ≡ length_fault wanted sent
+length_accepts wanted sent r h q = q ∙ sym (length_right wanted sent h)
+
+pub length_refuses : (wanted sent : ℕ) (r : Reply) → (sent ≡ wanted → ⊥) → r ≡ refusal 3 0 0 0 → r ≡ length_fault wanted sent
+length_refuses wanted sent r h q = q ∙ sym (length_wrong wanted sent h)
+
+-- room for what is to be written, or not
+pub room_short : (needed room : ℕ) (r : Reply) → room < needed → r ≡ refusal 8 0 0 needed → r ≡ room_fault needed room
+unfolding room_fault
+room_short needed room r h q = rw (lt-ltb room needed h) q
+
+pub room_enough : (needed room : ℕ) (r : Reply) → needed ≤ room → r ≡ fine → r ≡ room_fault needed room
+unfolding room_fault
+room_enough needed room r h q = rw (le-ltb room needed h) q
 
 -- a length that nothing is refused of is the one wanted
 pub length_passed : (wanted sent : ℕ) → fine ≡ length_fault wanted sent → sent ≡ wanted

@@ -1,6 +1,6 @@
 -- Sequences: n places that use each of 1 to n use each just once and nothing else. What the loop of `uses_each_once` gathers, and what its
 -- answer means by places. Assumes nothing.
-use Rattle.std.proofs.Common.{◌≡◌, refl, sym, ap, ◌∙◌, Bool, true, false, not, ◌&&◌, ◌||◌, List, [], ◌∷◌, ◌++◌, ◌⊎◌, inl, inr, ⊎_elim, ◌↔◌, ℕ, zero, suc, ◌+◌, ◌≤◌, ◌<◌, not-suc-le-zero, add-one, arith, length, get_or, take, take-suc, take_all, eqb, ltb, leb, eq-eqb, ne_eqb, eqb-true, lt-ltb, ltb-true, le-leb}
+use Rattle.std.proofs.Common.{◌≡◌, refl, sym, ap, ◌∙◌, Bool, true, false, ◌&&◌, ◌||◌, List, [], ◌∷◌, ◌++◌, ◌⊎◌, inl, inr, ⊎_elim, ◌↔◌, ℕ, zero, suc, ◌+◌, ◌≤◌, ◌<◌, not-suc-le-zero, add-one, arith, length, get_or, take, take-suc, take_all, w64, Fits, eqb, ltb, leb, eq-eqb, ne_eqb, eqb-true, lt-ltb, ltb-true, le-leb, not}
 use mathlib.Core.Path.{fun_ext}
 use mathlib.Core.Bool.{and-false}
 use native.Mathlib.Decide.{ℕ_discrete, dec_lt}
@@ -10,7 +10,7 @@ use Rattle.sets.specs.Word.{has, kept}
 use Rattle.sets.proofs.Bools.{and_left, and_right, same_test}
 use Rattle.sets.proofs.Sets.{same_set, in_up_to, up_to_in, every_at, at_every}
 use Rattle.sets.proofs.Sums.{sum_add, sum_zero}
-use Rattle.sets.proofs.Words.{kept_at, has_none}
+use Rattle.sets.proofs.Words.{same_word, kept_at, has_none}
 use Rattle.model.specs.Sequence.{EachOnce}
 use Rattle.plan.specs.Sequences.{occurs, uses_each_once}
 
@@ -201,11 +201,33 @@ used_stands n s e = same_set to from
     from zero h = absurd (let r = up_to_in n zero h in omega (arith, r.0))
     from (suc i) h = let r = up_to_in n (suc i) h in let u : occurs (suc i) s ≡ 1 = used_all n s e i r.1 in lt-ltb 0 (occurs (suc i) s) (omega arith)
 
+-- the word that the loop gathers is that of 1 to n exactly where the places are a sequence
+pub gathered : (n : ℕ) (s : List ℕ) (p w v : ℕ) → n ≤ 62 → length s ≡ n → length s ≤ p → Fits w64 w → Fits w64 v
+    → has w ≡ kept (stands (take p s)) → has v ≡ kept (up_to n) → eqb w v ≡ uses_each_once n s
+unfolding stands
+gathered n s p w v few long end wl vl e q = same_test (eqb w v) (uses_each_once n s) to from
+  where
+    all : has w ≡ kept (stands s)
+    all = rw (take_all p s end) at e
+
+    to : eqb w v ≡ true → uses_each_once n s ≡ true
+    to h = uses_all n s few long (λ i l. ltb-true 0 (occurs (suc i) s) (in_both i l))
+      where
+        in_both : (i : ℕ) → i < n → stands s (suc i) ≡ true
+        in_both i l =
+            sym (kept_at (stands s) (suc i) (omega arith))
+            ∙ ap (λ (t : ℕ → Bool). t (suc i)) (sym all ∙ ap has (eqb-true w v h) ∙ q)
+            ∙ kept_at (up_to n) (suc i) (omega arith)
+            ∙ in_up_to n (suc i) (omega arith) l
+
+    from : uses_each_once n s ≡ true → eqb w v ≡ true
+    from h = eq-eqb w v (same_word w v wl.fits vl.fits (all ∙ ap kept (used_stands n s h) ∙ sym q))
+
 -- each of 1 to n is in the word that the loop gathers exactly where the places are a sequence
-pub gathered : (n : ℕ) (s : List ℕ) (p w v : ℕ) (answer : Bool) → n ≤ 62 → length s ≡ n → length s ≤ p
+pub all_seen : (n : ℕ) (s : List ℕ) (p w v : ℕ) (answer : Bool) → n ≤ 62 → length s ≡ n → length s ≤ p
     → has w ≡ kept (stands (take p s)) → has v ≡ kept (up_to n) → answer ≡ every (λ i. not (has v i) || has w i) 64 → answer ≡ uses_each_once n s
 unfolding stands
-gathered n s p w v answer few long end e q within = within ∙ same_test (every (λ i. not (has v i) || has w i) 64) (uses_each_once n s) to from
+all_seen n s p w v answer few long end e q within = within ∙ same_test (every (λ i. not (has v i) || has w i) 64) (uses_each_once n s) to from
   where
     all : has w ≡ kept (stands s)
     all = rw (take_all p s end) at e

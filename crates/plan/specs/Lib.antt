@@ -7,3 +7,4 @@ pub mod Links
 pub mod Sequences
 pub mod Endings
 pub mod LinkEndings
+pub mod Message

@@ -2,7 +2,7 @@
 -- earlier in the order of checks holds. proofs/LinkEndings.antt: the fault is one of these, and each of these is the fault.
 use Rattle.std.specs.Prelude.{◌≡◌, List, ℕ, ◌≤◌, ◌<◌, length, slice_index, slice_index_or}
 use Rattle.plan.specs.declared.replies.Reply.{Reply}
-use Rattle.plan.specs.declared.Need.{Need}
+use Rattle.plan.specs.declared.words.Need.{Need}
 use Rattle.plan.specs.Refusal.{fine, refusal}
 use Rattle.plan.specs.Layout.{steps_of}
 use Rattle.plan.specs.Links.{need_for, need_list, need_count}

@@ -4,7 +4,7 @@ use Rattle.std.specs.Prelude.{Bool, ◌&&◌, List, [], ◌∷◌, ◌++◌, map
 use Rattle.sets.specs.Test.{up_to, sum_to}
 use Rattle.sets.specs.Word.{count, members}
 use Rattle.plan.specs.declared.replies.Reply.{Reply}
-use Rattle.plan.specs.declared.Need.{Need}
+use Rattle.plan.specs.declared.words.Need.{Need}
 use Rattle.plan.specs.Refusal.{fine, refusal, first_of, length_fault}
 use Rattle.plan.specs.Layout.{steps_of, needs_of}
 use Rattle.plan.specs.Words.{plan_fault}

@@ -8,50 +8,50 @@ ghost use Rattle.run.specs.Call.{unmet, ran, run_from, begun, run_reply};
 ghost use Rattle.sets.specs.Word.{has};
 ghost use Rattle.model.specs.Run.{after};
 
-use plan::Refusal;
+use plan::{Plan, Refusal};
 use sets::Set;
 
-/// 9 where a step needs a fact that the state lacks.
+/// Refuses the first fact that a step needs and a state lacks.
 #[tactic(auto, using(crate::proofs::Steps::looked_at))]
-fn need_fault(plan: &[u64], step: u64, state: Set) -> Result<(), Refusal>
+fn need_fault(plan: &Plan, step: u64, state: Set) -> Result<(), Refusal>
     ensures { checked result ≡ unmet (plan_of plan.now) step (has state) fine }
 {
-    match plan::needs_of(plan, step).difference(state).first() {
-        Some(fact) => Err(Refusal::NeedUnmet { step, fact }),
-        None => Ok(()),
-    }
+    let lacking = plan.needs_of(step).difference(state);
+    lacking
+        .first()
+        .map_or(Ok(()), |fact| Err(Refusal::NeedUnmet { step, fact }))
 }
 
 /// The state after a step.
 #[tactic(auto, using(crate::proofs::Steps::after_is))]
-fn after_step(plan: &[u64], step: u64, state: Set) -> Set
+fn after_step(plan: &Plan, step: u64, state: Set) -> Set
     ensures { has result ≡ after (plan_of plan.now) step (has state) }
 {
-    let kept = state.difference(plan::deletes_of(plan, step));
-    kept.union(plan::adds_of(plan, step))
+    let kept = state.difference(plan.deletes_of(step));
+    kept.union(plan.adds_of(step))
 }
 
 /// The run of a sequence whose steps are taken as they come: each in its turn, then the goal.
-pub fn run_steps(plan: &[u64], sequence: &[u8]) -> Result<Set, Refusal>
+pub fn run_steps(plan: &Plan, sequence: &[u8]) -> Result<Set, Refusal>
     ensures { ran result ≡ run_from (plan_of plan.now) sequence.now (begun (plan_of plan.now)) }
 {
-    let mut state = plan::adds_of(plan, 0);
+    let mut state = plan.adds_of(0);
     for step in sequence {
         let step = u64::from(*step);
         need_fault(plan, step, state)?;
         state = after_step(plan, step, state);
     }
-    need_fault(plan, plan::steps_of(plan) + 1, state)?;
+    need_fault(plan, plan.steps() + 1, state)?;
     Ok(state)
 }
 
 /// Runs a sequence of the steps 1 to n from the initial facts, each step once: the facts that hold at the end.
 #[tactic(auto, using(plan::proofs::Refusals::in_turn, crate::proofs::Steps::once), unfolding(crate::specs::Call::run_reply))]
-pub fn run(plan: &[u64], sequence: &[u8]) -> Result<Set, Refusal>
+pub fn run(plan: &Plan, sequence: &[u8]) -> Result<Set, Refusal>
     ensures { ran result ≡ run_reply plan.now sequence.now }
 {
-    plan::plan_fault(plan)?;
-    let n = plan::steps_of(plan);
+    plan.fault()?;
+    let n = plan.steps();
     plan::length_fault(n, sequence.len() as u64)?;
     if !plan::uses_each_once(n, sequence) {
         return Err(Refusal::NotOnceEach);
@@ -74,7 +74,7 @@ mod tests {
             ([2, 1], [9, 1, 0, 0]),
             ([1, 1], [15, 0, 0, 0]),
         ] {
-            let reply = Reply::from(run(&PLAN, &sequence));
+            let reply = Reply::from(run(&Plan::from(PLAN.as_slice()), &sequence));
             assert_eq!(rt; reply, plan::refuse(code, step, fact, other));
         }
     }

@@ -1,5 +1,5 @@
 -- The least number that passes a test: what it means, and the two ways on of a loop that searches upwards. Assumes nothing.
-use Rattle.std.proofs.Common.{◌≡◌, refl, sym, ap, ◌∙◌, Bool, true, false, cond, ℕ, zero, suc, ◌+◌, ◌≤◌, ◌<◌, zero-le, suc-le-suc, le_of_suc-le-suc, not-suc-le-zero, zero-lt-suc, arith, below_more, lt-ltb, le-ltb, ltb, Option, Some, None, unwrap_or}
+use Rattle.std.proofs.Common.{◌≡◌, refl, sym, ap, ◌∙◌, Bool, true, false, cond, ℕ, zero, suc, ◌+◌, ◌≤◌, ◌<◌, zero-le, suc-le-suc, le_of_suc-le-suc, not-suc-le-zero, zero-lt-suc, arith, below_more, lt-ltb, le-ltb, Option, Some, None, unwrap_or}
 use native.Mathlib.Decide.{dec_lt}
 use Rattle.sets.specs.Test.{least, first_passing}
 use Rattle.sets.proofs.Bools.{not_both}
@@ -93,11 +93,6 @@ pub passing_none : (p : ℕ → Bool) (n : ℕ) → least p n ≡ n → first_pa
 unfolding first_passing
 passing_none p n e = rw (e, le-ltb n n (omega arith)) refl
 
--- tests that agree below n have the same first
-pub passing_same : (p q : ℕ → Bool) (n : ℕ) → ((k : ℕ) → k < n → p k ≡ q k) → first_passing p n ≡ first_passing q n
-unfolding first_passing
-passing_same p q n f = ap (λ (i : ℕ). cond (ltb i n) (Some i) None) (least_same p q n f)
-
 -- with n for none, it is the least
 pub passing_or : (p : ℕ → Bool) (n : ℕ) → unwrap_or (first_passing p n) n ≡ least p n
 passing_or p n = go (dec_lt (least p n) n)
@@ -123,12 +118,3 @@ passing_is p n i e = go (dec_lt (least p n) n)
 -- where no first passes, the least is n
 pub none_passing : (p : ℕ → Bool) (n : ℕ) → first_passing p n ≡ None → least p n ≡ n
 none_passing p n e = sym (passing_or p n) ∙ ap (λ (o : Option ℕ). unwrap_or o n) e
-
--- what is chosen by the first that passes, or where none does, is chosen by the least
-pub chosen : {X : Type 0} (p : ℕ → Bool) (n i : ℕ) (found : ℕ → X) (none : X) → Some i ≡ first_passing p n → found i ≡ cond (ltb (least p n) n) (found (least p n)) none
-chosen p n i found none e =
-    let first = passing_is p n i (sym e) in
-    rw (first.1, lt-ltb i n first.0) refl
-
-pub none_chosen : {X : Type 0} (p : ℕ → Bool) (n : ℕ) (found : ℕ → X) (none : X) → None ≡ first_passing p n → none ≡ cond (ltb (least p n) n) (found (least p n)) none
-none_chosen p n found none e = rw (none_passing p n (sym e), le-ltb n n (omega arith)) refl

@@ -1,6 +1,6 @@
 -- The members of a set in rising order: the first is the least, the rest are those of the set without it, and each stands at one place.
 -- Assumes nothing.
-use Rattle.std.proofs.Common.{◌≡◌, refl, sym, ap, ◌∙◌, Bool, true, false, cond, List, [], ◌∷◌, ℕ, zero, suc, ◌+◌, ◌≤◌, ◌<◌, not-suc-le-zero, arith, length, get_or, Some, None}
+use Rattle.std.proofs.Common.{◌≡◌, refl, sym, ap, ◌∙◌, Bool, true, false, cond, List, ◌∷◌, ℕ, zero, suc, ◌+◌, ◌≤◌, ◌<◌, not-suc-le-zero, arith, length, get_or, [], Some, None, ◌-◌}
 use native.Mathlib.Decide.{dec_lt, ℕ_discrete}
 use Rattle.sets.specs.Test.{remove, least, first_passing, bit, sum_to, size, members_from}
 use Rattle.sets.specs.Word.{has, count, members}
@@ -52,15 +52,15 @@ unfolding members_from
 same_from s t i zero f = refl
 same_from s t i (suc k) f = rw (f i (omega arith), same_from s t (suc i) k (λ j h. f j (omega arith)))
 
-none_low : (s : ℕ → Bool) (i k : ℕ) → low_from s i k ≡ i + k → members_from s i k ≡ []
+head_low : (s : ℕ → Bool) (i k : ℕ) → get_or (members_from s i k) 0 (i + k) ≡ low_from s i k
 unfolding members_from low_from
-none_low s i zero e = refl
-none_low s i (suc k) e = go (s i) e (none_low s (suc i) k)
+head_low s i zero = omega arith
+head_low s i (suc k) = go (s i) (ap (get_or (members_from s (suc i) k) 0) (let e : i + suc k ≡ suc i + k = omega arith in e) ∙ head_low s (suc i) k)
   where
-    go : (b : Bool) → cond b i (low_from s (suc i) k) ≡ i + suc k → (low_from s (suc i) k ≡ suc i + k → members_from s (suc i) k ≡ [])
-        → cond b (i ∷ members_from s (suc i) k) (members_from s (suc i) k) ≡ []
-    go true e f = absurd (omega arith)
-    go false e f = f (omega arith)
+    go : (b : Bool) → get_or (members_from s (suc i) k) 0 (i + suc k) ≡ low_from s (suc i) k
+        → get_or (cond b (i ∷ members_from s (suc i) k) (members_from s (suc i) k)) 0 (i + suc k) ≡ cond b i (low_from s (suc i) k)
+    go true e = refl
+    go false e = e
 
 -- leaving x out changes no other number
 remove_other : (x j : ℕ) (s : ℕ → Bool) → (j ≡ x → ⊥) → remove x s j ≡ s j
@@ -70,6 +70,51 @@ remove_other x j s ne = go (s j) refl
     go : (b : Bool) → s j ≡ b → remove x s j ≡ b
     go true e = in_remove x s j e ne
     go false e = none_true (remove x s j) (λ h. not_both (remove_in x s j h) e)
+
+tail_low : (s : ℕ → Bool) (i k m d : ℕ) → get_or (members_from s i k) (suc m) d ≡ get_or (members_from (remove (low_from s i k) s) i k) m d
+unfolding members_from low_from
+tail_low s i zero m d = refl
+tail_low s i (suc k) m d = go (s i) refl (tail_low s (suc i) k m d)
+  where
+    go : (b : Bool) → s i ≡ b → get_or (members_from s (suc i) k) (suc m) d ≡ get_or (members_from (remove (low_from s (suc i) k) s) (suc i) k) m d
+        → get_or (cond b (i ∷ members_from s (suc i) k) (members_from s (suc i) k)) (suc m) d
+        ≡ get_or (cond (remove (cond b i (low_from s (suc i) k)) s i) (i ∷ members_from (remove (cond b i (low_from s (suc i) k)) s) (suc i) k) (members_from (remove (cond b i (low_from s (suc i) k)) s) (suc i) k)) m d
+    go true e h =
+        rw (remove_self i s) (ap (λ (l : List ℕ). get_or l m d) (same_from s (remove i s) (suc i) k (λ j a. sym (remove_other i j s (λ q. omega arith)))))
+    go false e h =
+        let low = low_is s (suc i) k in
+        rw (remove_other (low_from s (suc i) k) i s (λ q. omega (arith, low.from)), e) h
+
+-- the first member of a word is its lowest number
+pub members_head : (w : ℕ) → get_or (members w) 0 64 ≡ least (has w) 64
+unfolding members
+members_head w = head_low (has w) 0 64 ∙ low_least (has w) 64
+
+-- the members after the first are those of any word that has all but the lowest number
+pub members_tail : (w v m : ℕ) → has v ≡ remove (least (has w) 64) (has w) → get_or (members w) (suc m) 64 ≡ get_or (members v) m 64
+unfolding members
+members_tail w v m e =
+    tail_low (has w) 0 64 m 64
+    ∙ ap (λ (x : ℕ). get_or (members_from (remove x (has w)) 0 64) m 64) (low_least (has w) 64)
+    ∙ ap (λ (s : ℕ → Bool). get_or (members_from s 0 64) m 64) (sym e)
+
+-- one lowest number less moves the place down by one
+pub less_one : (w rest low rest' k i : ℕ) → i < k → get_or (members w) k 64 ≡ get_or (members rest) (k - i) 64
+    → low ≡ least (has rest) 64 → has rest' ≡ remove low (has rest) → get_or (members w) k 64 ≡ get_or (members rest') (k - (i + 1)) 64
+less_one w rest low rest' k i h e l r =
+    let q : k - i ≡ suc (k - (i + 1)) = omega arith in
+    e ∙ ap (λ (m : ℕ). get_or (members rest) m 64) q ∙ members_tail rest rest' (k - (i + 1)) (r ∙ ap (λ (x : ℕ). remove x (has rest)) l)
+
+-- where none is low, there is no member
+none_low : (s : ℕ → Bool) (i k : ℕ) → low_from s i k ≡ i + k → members_from s i k ≡ []
+unfolding members_from low_from
+none_low s i zero e = refl
+none_low s i (suc k) e = go (s i) e (none_low s (suc i) k)
+  where
+    go : (b : Bool) → cond b i (low_from s (suc i) k) ≡ i + suc k → (low_from s (suc i) k ≡ suc i + k → members_from s (suc i) k ≡ [])
+        → cond b (i ∷ members_from s (suc i) k) (members_from s (suc i) k) ≡ []
+    go true e f = absurd (omega arith)
+    go false e f = f (omega arith)
 
 -- the members from i on, where there is one: the least, then those of the set without it
 cons_low : (s : ℕ → Bool) (i k : ℕ) → low_from s i k < i + k → members_from s i k ≡ low_from s i k ∷ members_from (remove (low_from s i k) s) i k

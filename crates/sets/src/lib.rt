@@ -1,7 +1,7 @@
 //! A set of the numbers 0 to 63, kept in one 64-bit word. Every function takes every input.
 #![tactic(auto)]
 
-ghost use Rattle.std.specs.Prelude.{◌≡◌, ◌<◌, ◌^◌, ℕ, Bool, not, ◌||◌, slice_index_or};
+ghost use Rattle.std.specs.Prelude.{◌≡◌, ◌<◌, ◌^◌, ℕ, not, ◌||◌, slice_index_or};
 ghost use Rattle.std.specs.Iterator.{YieldsFirst, item_count};
 ghost use Rattle.sets.specs.Test.{insert, remove, either, both, less, under, up_to, least, first_passing, every};
 ghost use Rattle.sets.specs.Word.{has, kept, count, members};
@@ -9,7 +9,7 @@ ghost use Rattle.sets.specs.Word.{has, kept, count, members};
 use std::marker::Model;
 
 /// A set of the numbers 0 to 63. Clauses see its word: i is in the set where `has word i`.
-#[derive(Clone, Copy, Debug, PartialEq, Eq, Hash)]
+#[derive(Clone, Copy, Debug, Default, PartialEq, Eq, Hash)]
 pub struct Set {
     word: u64,
 }
@@ -22,15 +22,6 @@ impl Model for Set {
     ghost invariant = { λ s. s.word < 2 ^ 64 };
 
     ghost inverse = { λ w. record { word = w } };
-}
-
-/// The set with nothing in it.
-impl Default for Set {
-    ghost is_default = { λ set. set ≡ 0 };
-
-    fn default() -> Set {
-        Set { word: 0 }
-    }
 }
 
 /// The set of a word.
@@ -56,11 +47,7 @@ impl Set {
     pub fn holds(self, i: u64) -> bool
         ensures { result ≡ has self i }
     {
-        if i < 64 {
-            (self.word >> i) & 1 == 1
-        } else {
-            false
-        }
+        i < 64 && (self.word >> i) & 1 == 1
     }
 
     /// The set with i in it; no number past 63 can be.
@@ -163,8 +150,7 @@ impl Set {
     pub fn steps(n: u64) -> Set
         ensures { has result ≡ kept (up_to n) }
     {
-        let top = if n < 64 { n + 1 } else { 64 };
-        Set::below(top).without(0)
+        Set::below(n.min(63) + 1).without(0)
     }
 
     /// The number with k lower ones in the set, 64 where there is none.
@@ -177,7 +163,7 @@ impl Set {
 }
 
 /// The numbers of a set that are still to come, rising.
-#[derive(Clone, Copy, Debug, PartialEq, Eq, Hash)]
+#[derive(Clone, Debug, Drop)]
 pub struct Numbers {
     rest: Set,
 }

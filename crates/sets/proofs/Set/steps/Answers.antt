@@ -1,15 +1,16 @@
 -- The numbers below the end, without 0.
-use Rattle.std.proofs.Common.{◌≡◌, ◌+◌, ◌≤◌, ◌⊎◌, inl, inr, ap, ◌∙◌, arith}
-use Rattle.sets.specs.Test.{remove}
+use Rattle.std.proofs.Common.{◌≡◌, ◌+◌, ◌≤◌, ◌⊎◌, inl, inr, min, ap, ◌∙◌, ℕ, arith}
+use native.Mathlib.Decide.{dec_lt}
+use Rattle.sets.specs.Test.{remove, under}
+use Rattle.sets.specs.Word.{kept}
 use Rattle.sets.proofs.Words.{up_to_less}
 use Rattle.sets.proofs.Set.steps.Goals as goal
-use Rattle.sets.proofs.Set.steps.Goals.{then-n-lt64, else-n-lt64}
+
+-- one past n, or 64
+one_past : (n : ℕ) → (min n 63 + 1 ≡ n + 1) ⊎ ((min n 63 + 1 ≡ 64) × (64 ≤ n))
+one_past n = elim (dec_lt n 64) [ yes h ↦ inl (omega arith) | no h ↦ inr (omega arith, omega arith) ]
 
 pub returns : goal.returns
 returns c =
     let n = c.args.n in
-    let top = c.if-n-lt64.top in
-    let h : (top ≡ n + 1) ⊎ ((top ≡ 64) × (64 ≤ n)) =
-    elim c.if-n-lt64.branch [ then-n-lt64 w ↦ inl (omega arith) | else-n-lt64 w ↦ inr (omega arith, omega arith) ]
-    in
-    c.without.ensures ∙ ap (remove 0) c.below.ensures ∙ up_to_less n top h
+    c.without.ensures ∙ ap (remove 0) c.below.ensures ∙ ap (λ (m : ℕ). remove 0 (kept (under (m + 1)))) c.min.ensures ∙ up_to_less n (min n 63 + 1) (one_past n)

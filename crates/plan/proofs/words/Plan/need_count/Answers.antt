@@ -1,7 +1,7 @@
 -- The needs of all steps and of the end.
 use Rattle.std.proofs.Common.{rules}
 use Rattle.plan.proofs.NeedSteps.{count_is, count_few}
-use Rattle.plan.proofs.need_count.Goals as goal
+use Rattle.plan.proofs.words.Plan.need_count.Goals as goal
 
 pub returns-clause-value : goal.returns-clause-value
 returns-clause-value c = search (rules, count_is)

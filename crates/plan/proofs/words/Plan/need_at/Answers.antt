@@ -1,7 +1,7 @@
 -- A place past the needs of a consumer is sought from the next one on.
 use Rattle.std.proofs.Common.{rules, arith}
 use Rattle.plan.proofs.NeedSteps.{need_start, need_past, need_here, need_last}
-use Rattle.plan.proofs.need_at.Goals as goal
+use Rattle.plan.proofs.words.Plan.need_at.Goals as goal
 
 pub loop-consumer-init : goal.loop-consumer-init
 loop-consumer-init c = search (rules, need_start)
@@ -14,5 +14,5 @@ loop-consumer-preserved c = search (rules, need_past)
 
 pub returns-else-rest-own : goal.returns-else-rest-own
 returns-else-rest-own c =
-    need_last _ _ _ c.loop-consumer.rest _ _ _ (omega (arith, c.steps_of-consumer-end.ensures.value)) (omega (arith, c.steps_of-consumer-end.ensures.value)) c.needs_of-needs.ensures c.count-own.ensures
+    need_last _ _ _ c.loop-consumer.rest _ _ _ (omega (arith, c.steps-consumer-end.ensures.value)) (omega (arith, c.steps-consumer-end.ensures.value)) c.needs_of-needs.ensures c.count-own.ensures
     c.if-rest-own.false c.loop-consumer.invariant
