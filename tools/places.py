@@ -41,7 +41,11 @@ def twins():
     for f, n, name, _, _, _, body in functions():
         shape = re.sub(r"\b[A-Za-z_]\w*\b", lambda m: m.group() if m.group() in WORDS else "x", re.sub(r"//.*", "", body))
         shape = re.sub(r"\bx(\s*(\.|::)\s*x)+\b", "x", re.sub(r"\b\d\w*\b", "x", shape))
-        shapes.setdefault(re.sub(r"\s+", " ", shape), []).append((f, n, "the same shape", name))
+        shape = re.sub(r"\bx(\s*[:,]\s*x)+\b,?", "x", re.sub(r"\s+", " ", shape))
+        shape = re.sub(r"\{ (Err\(x \{ x \}\)) \}", r"\1", shape)
+        shape = re.sub(r"x \. x|x\.x", "x", re.sub(r"\s*\.\s*", ".", shape))
+        if len(re.findall(r"\bx\b", shape)) > 3:
+            shapes.setdefault(shape, []).append((f, n, "the same shape", name))
     return [place for places in shapes.values() if len(places) > 1 for place in places]
 
 
@@ -57,7 +61,7 @@ def raw_values():
 
 
 POINTS = {
-    "1 numbers for refusals, kinds and none": lambda: answers_a_code() + lines(r"pub code: u64", "a code") + lines(r"// .*(64|links) where there is none|consumer: 0,|// Word i.*0 past|// .*an empty part for", "a number or a part for none") + lines(r"requires \{ k ≤ 2 \}", "a number for a kind"),
+    "1 numbers for refusals, kinds and none": lambda: answers_a_code() + lines(r"pub code: u64", "a code") + lines(r"// .*(64|links) where there is none|fact: 0,|// Word i.*0 past|// .*an empty part for", "a number or a part for none") + lines(r"requires \{ k ≤ 2 \}", "a number for a kind"),
     "2 twins": twins,
     "3 loops that count an index by hand": lambda: lines(r"^\s*(while|loop)\b", "a loop"),
     "4 conversions and derives": lambda: lines(r"(trailing_zeros|count_ones)\(\w*\) as u64|\w\[\w+\] as u64", "a conversion that From has") + lines(r"#\[derive\(Drop\)\]", "a plain type with no equality, copy or print"),

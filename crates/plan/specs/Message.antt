@@ -1,4 +1,4 @@
--- What a refusal says to a reader, beside its numbers. Stands on nothing.
+-- What a refusal says to a reader, beside its numbers. Stands on the enum alone.
 use Rattle.std.specs.Prelude.{List, ℕ, ◌++◌, codes}
 use Rattle.std.specs.Fmt.{decimal}
 use Rattle.plan.specs.declared.replies.Refusal.{Refusal}

@@ -18,6 +18,9 @@ pub use words::{Need, Plan};
 /// The most steps that a plan or an order has.
 const MOST_STEPS: u64 = 62;
 
+/// The most facts that a plan has.
+const MOST_FACTS: u64 = 64;
+
 /// Refuses a length that is not the one wanted.
 #[tactic(auto, unfolding(crate::specs::Refusal::length_fault))]
 pub fn length_fault(wanted: u64, sent: u64) -> Result<(), Refusal>
@@ -43,6 +46,7 @@ pub fn room_fault(needed: u64, room: u64) -> Result<(), Refusal>
 }
 
 /// Refuses the first number of a set of steps that is not one of 1 to n.
+// One call of the library's `map_or`, as `set_fault` of words.rt.
 #[tactic(auto, using(crate::proofs::Faults::sets_looked_at))]
 fn step_set_fault(n: u64, step: u64, set: Set) -> Result<(), Refusal>
     ensures { checked result ≡ step_set_fault n step set }
@@ -99,5 +103,6 @@ pub fn uses_each_once(n: u64, sequence: &[u8]) -> bool
     for step in sequence {
         seen = seen.with(u64::from(*step));
     }
+    // There are n places, so where each of the n steps is seen, each stands at one of them and nothing else does.
     Set::steps(n).within(seen)
 }

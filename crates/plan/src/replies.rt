@@ -9,7 +9,7 @@ use std::error::Error;
 use std::fmt;
 
 /// The answer of every call over the C interface: a code, and where it is about.
-// The code stays a number: the C interface. `Refusal` is the enum, and `told` of specs/ gives each case its number.
+// The code stays a number: the C interface, docs/RULES.md 'Replies'. `Refusal` is the enum, and `told` of specs/ gives each case its number.
 #[repr(C)]
 #[derive(Clone, Copy, Debug, PartialEq, Eq, Hash)]
 pub struct Reply {
@@ -29,7 +29,7 @@ pub enum Refusal {
     FactOutside { step: u64, fact: u64 },
     /// A step number, `other`, is outside its range: in a list of step sets at the place `step`, counted from 1, with `fact` 0; or as the producer in
     /// the link of the consumer `step` for `fact`.
-    // One case for both: they are one row, so `told` could tell two cases by the same numbers.
+    // One case for both, which are one row of the table: two cases would be told by the same numbers, and `told_once` and `checked_once` would be false.
     StepOutside { step: u64, fact: u64, other: u64 },
     /// Adds and deletes of a step share a fact.
     SetsMeet { step: u64, fact: u64 },
@@ -69,7 +69,7 @@ impl fmt::Display for Refusal {
 impl Error for Refusal {}
 
 /// The reply that says nothing: there is nothing to refuse.
-// `accept` and `refuse` still answer numbers: the C interface, whose reply they make; and what may not change, their own clauses.
+// `accept`, `refuse`, `said` and `from` answer numbers: the C interface, docs/RULES.md 'Replies', whose reply they make.
 pub fn accept() -> Reply
     ensures { result ≡ fine }
 {
@@ -107,6 +107,7 @@ impl From<Refusal> for Reply {
 }
 
 /// What a call that is done has to say.
+// The replies below are numbers too: the C interface, docs/RULES.md 'Replies'.
 pub trait Done {
     ghost use Rattle.std.specs.Prelude.{◌≡◌};
     ghost use Rattle.plan.specs.declared.replies.Reply.{Reply};

@@ -7,11 +7,11 @@ ghost use Rattle.plan.specs.Words.{well_shaped, set_fault, meet_fault, step_chec
 ghost use Rattle.plan.specs.Links.{need_for, need_list, needs_below, need_count, links_fault, has_stretch, stretch_of};
 
 use crate::replies::Refusal;
-use crate::{MOST_STEPS, length_fault};
+use crate::{MOST_FACTS, MOST_STEPS, length_fault};
 use sets::Set;
 use std::marker::Model;
 
-/// The place of F. Words are found by their places, and n lies among them: the C interface lends a plan so.
+/// The place of F.
 const FACTS: usize = 0;
 
 /// The place of n.
@@ -68,6 +68,8 @@ struct Step {
 }
 
 /// Refuses the first fact of a set that is no fact of a plan.
+// One call of the library's `map_or`, as in each check of a set; the checks differ in the set and in the case, and a function for the rest would be
+// `map_or` again.
 #[tactic(auto, using(crate::proofs::Faults::sets_looked_at))]
 fn set_fault(facts: u64, step: u64, set: Set) -> Result<(), Refusal>
     ensures { checked result ≡ set_fault facts step set }
@@ -79,6 +81,7 @@ fn set_fault(facts: u64, step: u64, set: Set) -> Result<(), Refusal>
 }
 
 /// Refuses the first fact that adds and deletes share.
+// One call of the library's `map_or`, as `set_fault`.
 #[tactic(auto, using(crate::proofs::Faults::sets_looked_at))]
 fn meet_fault(step: u64, adds: Set, deletes: Set) -> Result<(), Refusal>
     ensures { checked result ≡ meet_fault step adds deletes }
@@ -98,7 +101,7 @@ fn first_above(n: u64, links: &[u8]) -> Option<usize>
 
 impl Plan<'_> {
     /// Word i, 0 past the end.
-    // The 0 stays: `slice_index` of the definitions, on which the clauses of all readers stand, has it (what may not change).
+    // The 0 stays, in place of an `Option`: no plainer, since it would move to the six callers, whose definitions in specs/Layout have it.
     fn word_at(&self, i: usize) -> u64
         ensures { result ≡ slice_index self.now i }
     {
@@ -132,6 +135,7 @@ impl Plan<'_> {
         if step < 1 || self.steps() < step {
             return Step::default();
         }
+        // Word by word, by place: what may not change, `step_word` of specs/Layout, reads 0 where the words end within a step.
         let place = FIRST_STEP + STEP_WORDS * (step as usize - 1);
         Step {
             needs: Set::from(self.word_at(place)),
@@ -154,6 +158,7 @@ impl Plan<'_> {
     }
 
     /// What a step adds; the start adds the initial facts.
+    // No twin of `needs_of`, as said there.
     #[tactic(auto, unfolding(crate::specs::Layout::adds_of))]
     pub fn adds_of(&self, step: u64) -> Set
         ensures { result ≡ adds_of self.now step }
@@ -179,9 +184,10 @@ impl Plan<'_> {
         ensures { result ≡ well_shaped self.now }
     {
         let n = self.word_at(STEPS);
-        self.facts() <= 64
+        self.facts() <= MOST_FACTS
             && n <= MOST_STEPS
-            && self.words.len() as u64 == FIRST_STEP as u64 + STEP_WORDS as u64 * n
+            // Counted by place: the C interface, docs/RULES.md 'Words, rows and links'.
+            && self.words.len() == FIRST_STEP + STEP_WORDS * n as usize
     }
 
     /// The first refusal of one step's words.

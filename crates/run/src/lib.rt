@@ -12,6 +12,7 @@ use plan::{Plan, Refusal};
 use sets::Set;
 
 /// Refuses the first fact that a step needs and a state lacks.
+// One call of the library's `map_or`, as `set_fault` of plan/src/words.rt.
 #[tactic(auto, using(crate::proofs::Steps::looked_at))]
 fn need_fault(plan: &Plan, step: u64, state: Set) -> Result<(), Refusal>
     ensures { checked result ≡ unmet (plan_of plan.now) step (has state) fine }
