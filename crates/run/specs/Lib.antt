@@ -1,2 +1,3 @@
 -- Running a sequence: what the call replies. What a reader must believe; what the reply means stands in proofs/.
 pub mod Call
+pub mod Endings
