@@ -1,20 +1,19 @@
 -- A run ends as the table says, both ways round: each ending is the reply, and the reply is one of the endings. Assumes nothing.
-use Rattle.std.proofs.Common.{◌≡◌, refl, sym, ap, ◌∙◌, subst, Bool, true, false, not, ◌&&◌, List, [], ◌∷◌, ◌⊎◌, inl, inr, ◌↔◌, ℕ, zero, suc, ◌+◌, ◌≤◌, ◌<◌, arith, length, get_or, drop, drop_of_length-le, drop-cons, lt-ltb, le-ltb}
+use Rattle.std.proofs.Common.{◌≡◌, refl, sym, ◌∙◌, Bool, true, false, List, ◌⊎◌, inl, inr, ℕ, zero, suc, ◌+◌, ◌≤◌, ◌<◌, arith, length, get_or, drop, drop_of_length-le, drop-cons, lt-ltb}
 use native.Mathlib.Decide.{ℕ_discrete}
 use Rattle.sets.specs.Test.{less, least}
 use Rattle.sets.specs.Word.{has}
 use Rattle.sets.proofs.Bools.{and_left, and_right, and_both, bool_cases, none_true, not_both, not_is, is_not, none_false}
 use Rattle.sets.proofs.Least.{least_found, least_none}
 use Rattle.sets.proofs.Words.{has_under}
-use Rattle.model.specs.Plan.{Plan}
-use Rattle.model.specs.Run.{CanRun, after, state, Runs}
+use Rattle.model.specs.Run.{CanRun, state, Runs}
 use Rattle.model.specs.Sequence.{EachOnce}
 use Rattle.plan.specs.declared.replies.Reply.{Reply}
 use Rattle.plan.specs.Refusal.{fine, refusal}
 use Rattle.plan.specs.Layout.{steps_of, needs_of, plan_of}
 use Rattle.plan.specs.Words.{plan_fault}
 use Rattle.plan.specs.Sequences.{uses_each_once}
-use Rattle.plan.specs.Endings.{WellFormed, PlanEnding}
+use Rattle.plan.specs.Endings.{WellFormed}
 use Rattle.plan.proofs.Layouts.{steps_at_most}
 use Rattle.plan.proofs.Outside.{look}
 use Rattle.plan.proofs.Sequences.{each_once}

@@ -1,0 +1,2 @@
+-- The table of examples that are proved. What a reader must believe.
+pub mod Examples
