@@ -10,3 +10,4 @@ pub mod WordEndings
 pub mod RowEndings
 pub mod LinkEndings
 pub mod Stretches
+pub mod StretchEndings

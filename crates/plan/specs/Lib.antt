@@ -7,4 +7,5 @@ pub mod Links
 pub mod Sequences
 pub mod Endings
 pub mod LinkEndings
+pub mod StretchEndings
 pub mod Message

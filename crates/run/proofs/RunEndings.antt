@@ -174,6 +174,10 @@ some_run words sequence = plan_first (ℕ_discrete (plan_fault words).code 0)
 pub run_ending : (words sequence : List ℕ) → RunEnding words sequence (run_reply words sequence)
 run_ending words sequence = let w = some_run words sequence in rw (← ending_run w.1) w.1
 
+-- a malformed plan has the reply of the check of plan words
+pub malformed_told : (words sequence : List ℕ) → ((plan_fault words).code ≡ 0 → ⊥) → run_reply words sequence ≡ plan_fault words
+malformed_told words sequence h = sym (ending_run (plan_bad (plan_ending words) h))
+
 -- the reply is code 0 exactly when plan and sequence are well formed, each step is used once, and the sequence runs
 pub record RunsWell (words sequence : List ℕ) : Type 0 where
   pub formed : WellFormed words
