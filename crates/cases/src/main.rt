@@ -24,7 +24,7 @@ fn told_run(rt: &impl Print, words: &[u64], sequence: &[u8]) -> io::Result<()> {
     told(rt, run::run(&Plan::from(words), sequence))
 }
 
-/// Runs, one for each code that a run gives, the first of them a proved example.
+/// Runs: at least one for each code that a run gives. The first is an example that is proved, too.
 fn runs(rt: &impl Print) -> io::Result<()> {
     println!(rt; "runs")?;
     told_run(rt, &DELETING, &[2, 1])?;
@@ -69,14 +69,16 @@ fn checks(rt: &impl Print) -> io::Result<()> {
     told(rt, plan::room_fault(5, 4))
 }
 
-/// The links of each consumer, each stretch on a line; the start and what is past the end have none.
+/// The links of each consumer, each stretch on a line; the start and what is past the end have none, nor have too few links or a malformed plan.
 fn stretches(rt: &impl Print) -> io::Result<()> {
     println!(rt; "stretches")?;
     let forking = Plan::from(FORKING.as_slice());
     for consumer in 0..7 {
         println!(rt; "{:?}", forking.links_of(&[1, 2, 2, 3, 4], consumer))?;
     }
-    Ok(())
+    println!(rt; "{:?}", forking.links_of(&[1, 2, 2, 3], 3))?;
+    let malformed = Plan::from([1, 0, 0, 2].as_slice());
+    println!(rt; "{:?}", malformed.links_of(&[0], 1))
 }
 
 fn main(rt: HostRuntime) -> io::Result<()> {

@@ -12,6 +12,7 @@ unfoldable pub after : Plan → ℕ → (ℕ → Bool) → ℕ → Bool
 after P i s f = (s f && not (P.deletes i f)) || P.adds i f
 
 -- the state before place p of a sequence, places counted from 0: the start has run, and each step at a lower place
+-- (Muise, Beck and McIlraith, section 2.1)
 unfoldable pub state : Plan → List ℕ → ℕ → ℕ → Bool
 unfolding after
 state P sequence zero = after P 0 (λ f. false)

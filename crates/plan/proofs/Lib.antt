@@ -11,3 +11,4 @@ pub mod RowEndings
 pub mod LinkEndings
 pub mod Stretches
 pub mod StretchEndings
+pub mod Papers

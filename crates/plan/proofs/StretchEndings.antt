@@ -1,10 +1,11 @@
 -- The stretch of a consumer comes out as the page says, both ways round: each case is the stretch, and the stretch is one of the cases. Assumes nothing.
-use Rattle.std.proofs.Common.{◌≡◌, sym, ap, ◌∙◌, List, ℕ, suc, ◌≤◌, ◌<◌, arith, length}
+use Rattle.std.proofs.Common.{◌≡◌, sym, ap, ◌∙◌, List, ℕ, suc, ◌+◌, ◌≤◌, ◌<◌, arith, length, get_or, drop, get_or-take, get_or-drop}
 use native.Mathlib.Decide.{ℕ_discrete, dec_lt}
+use Rattle.sets.specs.Word.{count}
 use Rattle.plan.specs.declared.replies.Reply.{Reply}
-use Rattle.plan.specs.Layout.{steps_of}
+use Rattle.plan.specs.Layout.{steps_of, needs_of}
 use Rattle.plan.specs.Words.{plan_fault}
-use Rattle.plan.specs.Links.{need_count, stretch_of}
+use Rattle.plan.specs.Links.{needs_below, need_count, stretch_of}
 use Rattle.plan.specs.Endings.{WellFormed}
 use Rattle.plan.specs.StretchEndings.{StretchEnding, plan_bad, miscounted, no_consumer, its_links}
 use Rattle.plan.proofs.Stretches.{stretch_is, is_stretch, no_stretch, own_stretch, refused_plan}
@@ -40,3 +41,10 @@ some_stretch words links consumer = plan_first (ℕ_discrete (plan_fault words).
 -- the stretch is one of the cases
 pub stretch_ending : (words links : List ℕ) (consumer : ℕ) → StretchEnding words links consumer (stretch_of words links consumer)
 stretch_ending words links consumer = let w = some_stretch words links consumer in rw (← ending_stretch w.1) w.1
+
+-- place m of a stretch is the link that stands m places after those of the lower consumers
+pub stretch_at : (words links : List ℕ) (consumer m : ℕ) → WellFormed words → length links ≡ need_count words → 1 ≤ consumer → consumer ≤ suc (steps_of words)
+    → m < count (needs_of words consumer) → get_or (stretch_of words links consumer) m 0 ≡ get_or links (needs_below words consumer + m) 0
+stretch_at words links consumer m w e low high l =
+    rw (← ending_stretch (its_links w e low high))
+    (get_or-take (count (needs_of words consumer)) (drop (needs_below words consumer) links) m 0 l ∙ get_or-drop (needs_below words consumer) links m 0)

@@ -1,5 +1,5 @@
 -- What each refusal of plan words and of rows says, row by row of the table in docs/RULES.md 'Replies': a constructor for each ending carries its own fact
--- and that nothing earlier in the order of checks holds. proofs/WordEndings.antt and RowEndings.antt: the fault is one of these, and each of these is the fault.
+-- and that nothing earlier in the order of its own checks holds. proofs/WordEndings.antt and RowEndings.antt: the fault is one of these, and each of these is the fault.
 use Rattle.std.specs.Prelude.{◌≡◌, true, false, List, ℕ, suc, ◌≤◌, ◌<◌, length, slice_index}
 use Rattle.sets.specs.Word.{has}
 use Rattle.plan.specs.declared.replies.Reply.{Reply}

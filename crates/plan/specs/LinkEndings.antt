@@ -1,5 +1,5 @@
 -- What each refusal of links says, row by row of the table in docs/RULES.md 'Replies': a constructor for each ending carries its own fact and that nothing
--- earlier in the order of checks holds. proofs/LinkEndings.antt: the fault is one of these, and each of these is the fault.
+-- earlier in the order of its own checks holds. proofs/LinkEndings.antt: the fault is one of these, and each of these is the fault.
 use Rattle.std.specs.Prelude.{◌≡◌, List, ℕ, ◌≤◌, ◌<◌, length, slice_index, slice_index_or}
 use Rattle.plan.specs.declared.replies.Reply.{Reply}
 use Rattle.plan.specs.declared.words.Need.{Need}

@@ -6,7 +6,7 @@ use Rattle.plan.specs.declared.replies.Refusal.TheVariants.{WrongLength, FactOut
 
 -- the message of each refusal
 abbrev pub message : Refusal → List ℕ
-message WrongLength = codes "a length is wrong"
+message WrongLength = codes "wrong F, n or length"
 message (FactOutside step fact) = codes "step " ++ (decimal step ++ (codes " names " ++ (decimal fact ++ codes ", which is no fact")))
 message (StepOutside step fact other) = codes "at " ++ (decimal step ++ (codes ": " ++ (decimal other ++ codes " is out of range")))
 message (SetsMeet step fact) = codes "step " ++ (decimal step ++ (codes " adds and deletes fact " ++ decimal fact))

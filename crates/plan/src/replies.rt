@@ -46,7 +46,7 @@ impl fmt::Display for Refusal {
 
     fn fmt<W: fmt::Write>(&self, f: &mut fmt::Formatter<W>) -> fmt::Result {
         match self {
-            Refusal::WrongLength => write!(f, "a length is wrong"),
+            Refusal::WrongLength => write!(f, "wrong F, n or length"),
             Refusal::FactOutside { step, fact } => write!(
                 f,
                 "step {step} names {fact}, which is no fact"

@@ -101,7 +101,7 @@ fn first_above(n: u64, links: &[u8]) -> Option<usize>
 
 impl Plan<'_> {
     /// Word i, 0 past the end.
-    // The 0 stays, in place of an `Option`: no plainer, since it would move to the six callers, whose definitions in specs/Layout have it.
+    // The 0 stays, in place of an `Option`: no plainer, since it would move to the callers, whose definitions have it.
     fn word_at(&self, i: usize) -> u64
         ensures { result ≡ slice_index self.now i }
     {

@@ -23,9 +23,10 @@ pub fn links_of_answers_once(plan: &Plan, links: &[u8], consumer: u64) -> bool
     plan.links_of(links, consumer) == plan.links_of(links, consumer)
 }
 
-/// The words of a plan have one reply, and so have its links, the rows of n steps, rows that come without a plan and any other list of step sets.
-pub fn checks_reply_once(plan: &Plan, links: &[u8], n: u64, rows: &[u64]) -> [bool; 5]
-    ensures { result ≡ true ∷ true ∷ true ∷ true ∷ true ∷ [] }
+/// The words of a plan have one reply, and so have its links, the rows of n steps, rows that come without a plan, any other list of step sets, a length
+/// and the room of an output.
+pub fn checks_reply_once(plan: &Plan, links: &[u8], n: u64, sent: u64, rows: &[u64]) -> [bool; 7]
+    ensures { result ≡ true ∷ true ∷ true ∷ true ∷ true ∷ true ∷ true ∷ [] }
 {
     [
         Reply::from(plan.fault()) == Reply::from(plan.fault()),
@@ -33,6 +34,8 @@ pub fn checks_reply_once(plan: &Plan, links: &[u8], n: u64, rows: &[u64]) -> [bo
         Reply::from(plan::rows_fault(n, rows)) == Reply::from(plan::rows_fault(n, rows)),
         Reply::from(plan::order_fault(rows)) == Reply::from(plan::order_fault(rows)),
         Reply::from(plan::step_sets_fault(n, rows)) == Reply::from(plan::step_sets_fault(n, rows)),
+        Reply::from(plan::length_fault(n, sent)) == Reply::from(plan::length_fault(n, sent)),
+        Reply::from(plan::room_fault(n, sent)) == Reply::from(plan::room_fault(n, sent)),
     ]
 }
 
