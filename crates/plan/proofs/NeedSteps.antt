@@ -1,12 +1,12 @@
 -- The ways on of the code that counts needs and finds need k: each law is one turn or one return. Assumes nothing.
-use Rattle.std.proofs.Common.{◌≡◌, refl, sym, ap, ◌∙◌, false, List, ℕ, suc, ◌+◌, ◌-◌, ◌≤◌, ◌<◌, add-one, arith, length, get_or, ltb, w64, Fits, below_more, lt-ltb, le-ltb}
+use Rattle.std.proofs.Common.{◌≡◌, refl, sym, ap, ◌∙◌, false, List, ℕ, zero, suc, ◌+◌, ◌-◌, ◌≤◌, ◌<◌, add-one, arith, length, get_or, ltb, w64, Fits, below_more, lt-ltb, le-ltb}
 use Rattle.sets.specs.Test.{least}
 use Rattle.sets.specs.Word.{count, members}
 use Rattle.sets.proofs.Least.{least_found, least_none}
 use Rattle.plan.specs.declared.words.Need.{Need}
 use Rattle.plan.specs.Layout.{steps_of, needs_of}
 use Rattle.plan.specs.Links.{need_for, needs_from, need_list, needs_below, need_count}
-use Rattle.plan.proofs.Needs.{below_suc, below_at_most, count_at_most, count_below, need_count_at_most, list_from, from_zero, from_here, from_past}
+use Rattle.plan.proofs.Needs.{below_zero, below_one, below_suc, below_at_most, count_at_most, count_below, need_count_at_most, list_from, from_zero, from_here, from_past}
 
 module _ (words : List ℕ) where
   -- a turn counts one step more
@@ -20,6 +20,11 @@ module _ (words : List ℕ) where
   -- at the end every step below has been counted
   pub below_end : (step i sum : ℕ) → i ≤ step → step ≤ i → sum ≡ needs_below words i → sum ≡ needs_below words step
   below_end step i sum a b s = s ∙ ap (needs_below words) (let e : i ≡ step = omega arith in e)
+
+  -- and also where the count begins at step 1, since the start needs nothing
+  pub below_all : (step i sum : ℕ) → step ≤ i → (1 ≤ step → i ≤ step) → 1 ≤ i → (step < 1 → i ≤ 1) → sum ≡ needs_below words i → sum ≡ needs_below words step
+  below_all zero i sum a b c d s = s ∙ ap (needs_below words) (let e : i ≡ 1 = let f : i ≤ 1 = d (omega arith) in omega arith in e) ∙ below_one words ∙ below_zero words
+  below_all (suc step) i sum a b c d s = below_end (suc step) i sum (b (omega arith)) a s
 
   -- the number of needs is what stands below step n + 2
   pub count_is : (n r : ℕ) → n ≡ steps_of words → r ≡ needs_below words (n + 2) → r ≡ need_count words

@@ -116,7 +116,7 @@ module _ (words : List ℕ) where
   start_count = ap count (sym (needs_step words (steps_of words) 0 0 refl (λ e. omega arith) (low_step words 0 0 (omega arith)))) ∙ count_none
 
   -- so nothing is needed below step 1
-  below_one : needs_below words 1 ≡ 0
+  pub below_one : needs_below words 1 ≡ 0
   below_one = omega (arith, below_suc 0, below_zero, start_count)
 
   -- a later step has no fewer needs below it

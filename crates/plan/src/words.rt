@@ -132,7 +132,12 @@ impl Plan<'_> {
         ensures adds { result.adds ≡ step_word self.now step 1 }
         ensures deletes { result.deletes ≡ step_word self.now step 2 }
     {
-        if step < 1 || self.steps() < step {
+        // Two tests, and n before both: as one condition they made `need_at` and run's `run_steps` slower (docs/LOOK-BACK.md).
+        let n = self.steps();
+        if step < 1 {
+            return Step::default();
+        }
+        if n < step {
             return Step::default();
         }
         // Word by word, by place: what may not change, `step_word` of specs/Layout, reads 0 where the words end within a step.
@@ -233,7 +238,8 @@ impl Plan<'_> {
         ensures { result ≡ needs_below self.now step }
     {
         let mut sum = 0;
-        for i in 0..step {
+        // From step 1, since the start needs nothing.
+        for i in 1..step {
             sum += self.needs_of(i).count();
         }
         sum
