@@ -132,7 +132,7 @@ impl Plan<'_> {
         ensures adds { result.adds ≡ step_word self.now step 1 }
         ensures deletes { result.deletes ≡ step_word self.now step 2 }
     {
-        // Two tests, and n before both: as one condition they made `need_at` and run's `run_steps` slower (docs/LOOK-BACK.md).
+        // n before the tests, or `run_steps` is slower; two tests in place of one condition, or `need_at` is (docs/LOOK-BACK.md).
         let n = self.steps();
         if step < 1 {
             return Step::default();

@@ -47,7 +47,7 @@ pub fn run_steps(plan: &Plan, sequence: &[u8]) -> Result<Set, Refusal>
 }
 
 /// Runs a sequence of the steps 1 to n from the initial facts, each step once: the facts that hold at the end.
-// A hint, since a refusal is told through copies where `run` stands alone (docs/LOOK-BACK.md).
+// In line, since as a function of its own it copies a refusal once more (docs/LOOK-BACK.md).
 #[inline]
 #[tactic(auto, using(plan::proofs::Refusals::in_turn, crate::proofs::Steps::once), unfolding(crate::specs::Call::run_reply))]
 pub fn run(plan: &Plan, sequence: &[u8]) -> Result<Set, Refusal>
